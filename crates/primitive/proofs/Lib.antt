@@ -1,0 +1,10 @@
+-- Laws about the rules, for the proofs of this crate and of those above it.
+pub mod Reading
+pub mod Same
+pub mod Unaltered
+pub mod Digits
+pub mod Marks
+pub mod Signed
+pub mod Values
+pub mod Lossless
+pub mod Examples

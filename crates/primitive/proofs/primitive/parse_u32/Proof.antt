@@ -1,0 +1,21 @@
+-- `parse_u32` is the unsigned value of its width, by the laws over the width.
+use Rattle.primitive.specs.Primitive.{unsigned}
+use Rattle.primitive.proofs.Values.{too-short, long-enough}
+use borrow.Author.Needs.{needs}
+use Rattle.primitive.proofs.primitive.parse_u32.Statement.{statement}
+use Rattle.primitive.proofs.primitive.parse_u32.Tie as tie
+
+returns : tie.Need-returns
+returns c = too-short 4 unsigned _ _ (c .if1 .taken)
+
+first-requires : tie.Need-first-requires
+first-requires c κs = search needs
+
+cast-t6 : tie.Need-cast-t6
+cast-t6 c = search needs
+
+returns-2 : tie.Need-returns-2
+returns-2 c = long-enough 4 unsigned _ _ (c .before .if1 .left) _ (c .first .ensures .0)
+
+pub parse-u32-spec : {M : Type 1} → statement M
+parse-u32-spec = tie.close (tie.spec returns first-requires cast-t6 returns-2)

@@ -1,0 +1,11 @@
+-- The rules of the lowest layer: what reading is, what numbers and primitive values are, and how an answer is told.
+pub mod Ascii
+pub mod Reader
+pub mod Number
+pub mod Looks
+pub mod Paper
+pub mod Refusals
+pub mod PointerSize
+pub mod Primitive
+pub mod Cursor
+pub mod Helpers

@@ -1,0 +1,37 @@
+-- Numbers as bytes spell them, in either order, and the two reads that go by what the bytes are: a number, and a mark.
+use Prim.Native.Nat.{ℕ, _+_, _*_, _-_, _^_}
+use mathlib.Core.Bool.{true, false}
+use mathlib.Core.List.{List, [], _∷_, reverse}
+use lib.Dec.{ltb}
+use lib.IntN.{ℤ, pos, subℕ}
+use lib.ListN.{length}
+use Rattle.primitive.specs.declared.Endianness.{Endianness}
+use Rattle.primitive.specs.declared.Endianness.the-variants.{Little, Big}
+use Rattle.primitive.specs.Reader.{Reader, same}
+use Rattle.primitive.specs.Reader.Reader.{bytes, stray}
+
+-- the number that bytes spell with the least significant byte first
+abbrev pub little : List ℕ → ℕ
+little [] = 0
+little (b ∷ bs) = b + 256 * little bs
+
+-- these bytes, least significant first: as they stand in the little order, reversed in the big one
+abbrev pub leastFirst : Endianness → List ℕ → List ℕ
+leastFirst Little bs = bs
+leastFirst Big bs = reverse bs
+
+-- the number that bytes spell in an order
+abbrev pub spelled : Endianness → List ℕ → ℕ
+spelled e bs = little (leastFirst e bs)
+
+-- two's complement: n, less 2 ^ bits where the highest of its bits is set
+abbrev pub twos : ℕ → ℕ → ℤ
+twos bits n = elim (ltb n (2 ^ (bits - 1))) [ true ↦ pos n | false ↦ subℕ n (2 ^ bits) ]
+
+-- a number of n bytes in the order e
+abbrev pub number : {A : Type 0} → Endianness → ℕ → (ℕ → Reader A) → Reader A
+number e n k = bytes n (λ b. k (spelled e b))
+
+-- these very bytes
+abbrev pub tag : {A : Type 0} → List ℕ → Reader A → Reader A
+tag m r = bytes (length m) (λ b. elim (same b m) [ true ↦ r | false ↦ stray (length m) ])

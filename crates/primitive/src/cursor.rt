@@ -1,0 +1,204 @@
+// A place in a run of bytes, moved by value: what nom's closures over the input are in the Rust. Each method is one read of a reading tree
+// (specs/Reader.antt), takes any place and any bytes, and hands the next place back in its answer.
+use crate::Endianness;
+use crate::Fault;
+use crate::number::number;
+ghost use mathlib.Core.Path.{_≡_};
+ghost use mathlib.Core.Bool.{true, false};
+ghost use Rattle.primitive.specs.Reader.{run, room, stands, toZero};
+ghost use Rattle.primitive.specs.Reader.Reader.{done, bytes, skip, string, begins};
+ghost use Rattle.primitive.specs.Number as rules;
+ghost use Rattle.primitive.specs.Cursor.{widthOf, numbered, moved, counted, begun, partOf};
+
+pub struct Cursor {
+    pub at: usize,
+}
+
+// How many bytes a number has.
+pub enum Width {
+    One,
+    Two,
+    Four,
+    Eight,
+}
+
+impl Width {
+    pub fn bytes_num(self) -> usize
+        ensures { λ r. ⌜ r ≡ widthOf self ⌝ }
+    {
+        match self {
+            Width::One => 1,
+            Width::Two => 2,
+            Width::Four => 4,
+            Width::Eight => 8,
+        }
+    }
+}
+
+// A number and the place after it.
+pub enum Numbered {
+    Is(u64, Cursor),
+    Stopped(Fault),
+}
+
+// The place after a run of bytes. The run itself starts at the place that was asked.
+pub enum Moved {
+    To(Cursor),
+    Stopped(Fault),
+}
+
+// How many bytes stand before a zero, and the place after the zero.
+pub enum Counted {
+    Is(usize, Cursor),
+    Stopped(Fault),
+}
+
+// Whether a mark was there, and the place after it, or the same place where it was not.
+pub struct Begun {
+    pub there: bool,
+    pub next: Cursor,
+}
+
+// Whether s has n bytes from at.
+fn has(s: &[u8], at: usize, n: usize) -> bool
+    ensures { λ r. ⌜ r ≡ room (now (s .entry)) at n ⌝ }
+{
+    if s.len() < at {
+        return false;
+    }
+    n <= s.len() - at
+}
+
+// Whether the bytes m stand at this place.
+fn stands_at(s: &[u8], at: usize, m: &[u8]) -> bool
+    ensures { λ r. ⌜ r ≡ stands (now (s .entry)) at (now (m .entry)) ⌝ }
+{
+    let n = m.len();
+    if n == 0 {
+        return true;
+    }
+    if has(s, at, n) {
+        let end = at + n;
+        check::same(&s[at..end], m)
+    } else {
+        false
+    }
+}
+
+// How many bytes stand before the first zero.
+fn to_zero(s: &[u8]) -> usize
+    ensures { λ r. ⌜ r ≡ toZero (now (s .entry)) ⌝ }
+{
+    let mut i = 0;
+    while i < s.len() {
+        if s[i] == 0 {
+            return i;
+        }
+        i += 1;
+    }
+    i
+}
+
+impl Cursor {
+    pub fn new(at: usize) -> Self
+        ensures { λ r. ⌜ r .at ≡ at ⌝ }
+    {
+        Cursor { at }
+    }
+
+    // A number of a width and an order.
+    pub fn number(self, s: &[u8], width: Width, order: Endianness) -> Numbered
+        ensures { λ r. ⌜ numbered r ≡ run (rules.number order (widthOf width) done) (now (s .entry)) (self .at) ⌝ }
+    {
+        let at = self.at;
+        let n = width.bytes_num();
+        if has(s, at, n) {
+            let end = at + n;
+            Numbered::Is(number(&s[at..end], order), Cursor { at: end })
+        } else {
+            Numbered::Stopped(Fault::Cut(at))
+        }
+    }
+
+    // The next n bytes, whatever they hold.
+    pub fn skip(self, s: &[u8], n: usize) -> Moved
+        ensures { λ r. ⌜ moved r ≡ run (skip n (done tt)) (now (s .entry)) (self .at) ⌝ }
+    {
+        let at = self.at;
+        if has(s, at, n) {
+            Moved::To(Cursor { at: at + n })
+        } else {
+            Moved::Stopped(Fault::Cut(at))
+        }
+    }
+
+    // The next n bytes, for a caller that looks at them.
+    pub fn bytes(self, s: &[u8], n: usize) -> Moved
+        ensures { λ r. ⌜ moved r ≡ run (bytes n (λ b. done tt)) (now (s .entry)) (self .at) ⌝ }
+    {
+        self.skip(s, n)
+    }
+
+    // The next n bytes themselves, or none where they are not there.
+    pub fn part<'a>(self, s: &'a [u8], n: usize) -> &'a [u8]
+        ensures { λ r. ⌜ now r ≡ partOf (now (s .entry)) (self .at) n ⌝ }
+    {
+        let at = self.at;
+        if has(s, at, n) {
+            &s[at..at + n]
+        } else {
+            &s[..0]
+        }
+    }
+
+    // These very bytes.
+    pub fn mark(self, s: &[u8], m: &[u8]) -> Moved
+        ensures { λ r. ⌜ moved r ≡ run (rules.tag (now (m .entry)) (done tt)) (now (s .entry)) (self .at) ⌝ }
+    {
+        let at = self.at;
+        let n = m.len();
+        if has(s, at, n) {
+            if stands_at(s, at, m) {
+                Moved::To(Cursor { at: at + n })
+            } else {
+                Moved::Stopped(Fault::Mark(at))
+            }
+        } else {
+            Moved::Stopped(Fault::Cut(at))
+        }
+    }
+
+    // Past these bytes where they are next; where they are not, the same place.
+    pub fn begins(self, s: &[u8], m: &[u8]) -> Begun
+        ensures { λ r. ⌜ begun r ≡ run (begins (now (m .entry)) (done true) (done false)) (now (s .entry)) (self .at) ⌝ }
+    {
+        let at = self.at;
+        if stands_at(s, at, m) {
+            Begun {
+                there: true,
+                next: Cursor { at: at + m.len() },
+            }
+        } else {
+            Begun {
+                there: false,
+                next: self,
+            }
+        }
+    }
+
+    // The bytes up to the next zero, and the zero.
+    pub fn string(self, s: &[u8]) -> Counted
+        ensures { λ r. ⌜ counted r ≡ run (string done) (now (s .entry)) (self .at) ⌝ }
+    {
+        let at = self.at;
+        if s.len() <= at {
+            return Counted::Stopped(Fault::Cut(at));
+        }
+        let n = to_zero(&s[at..]);
+        if n < s.len() - at {
+            Counted::Is(n, Cursor { at: at + (n + 1) })
+        } else {
+            Counted::Stopped(Fault::Cut(at))
+        }
+    }
+}

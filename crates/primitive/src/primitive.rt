@@ -1,0 +1,274 @@
+// Primitive values: parsers/primitive.rs of the Rust. Its trait is a named function for each kind here, and a slice that is too short,
+// where the Rust panics, is refusal 12.
+use crate::Endianness;
+use crate::number::first;
+use crate::number::signed8;
+use crate::number::signed16;
+use crate::number::signed32;
+use crate::number::signed64;
+ghost use mathlib.Core.Path.{_≡_};
+ghost use lib.Ieee.{binary32, binary64};
+ghost use Rattle.primitive.specs.Primitive.{valueOf, unsigned, signed, float, paperU8, paperU16, paperU32, paperU64, paperI8, paperI16, paperI32, paperI64, paperF32, paperF64, named};
+ghost use Rattle.primitive.specs.Ascii.{ascii};
+
+pub enum ValueU8 {
+    Is(u8),
+    Short,
+}
+
+pub enum ValueU16 {
+    Is(u16),
+    Short,
+}
+
+pub enum ValueU32 {
+    Is(u32),
+    Short,
+}
+
+pub enum ValueU64 {
+    Is(u64),
+    Short,
+}
+
+pub enum ValueI8 {
+    Is(i8),
+    Short,
+}
+
+pub enum ValueI16 {
+    Is(i16),
+    Short,
+}
+
+pub enum ValueI32 {
+    Is(i32),
+    Short,
+}
+
+pub enum ValueI64 {
+    Is(i64),
+    Short,
+}
+
+// A NaN's bits stand in a case of their own: no float of this language can be made of them.
+pub enum ValueF32 {
+    Is(f32),
+    Nan(u32),
+    Short,
+}
+
+// A NaN's bits stand in a case of their own: no float of this language can be made of them.
+pub enum ValueF64 {
+    Is(f64),
+    Nan(u64),
+    Short,
+}
+
+pub fn parse_u8(slice: &[u8], endianness: Endianness) -> ValueU8
+    ensures { λ r. ⌜ paperU8 r ≡ valueOf 1 unsigned endianness (now (slice .entry)) ⌝ }
+{
+    if slice.len() < 1 {
+        return ValueU8::Short;
+    }
+    ValueU8::Is(first(slice, 1, endianness) as u8)
+}
+
+pub fn parse_u16(slice: &[u8], endianness: Endianness) -> ValueU16
+    ensures { λ r. ⌜ paperU16 r ≡ valueOf 2 unsigned endianness (now (slice .entry)) ⌝ }
+{
+    if slice.len() < 2 {
+        return ValueU16::Short;
+    }
+    ValueU16::Is(first(slice, 2, endianness) as u16)
+}
+
+pub fn parse_u32(slice: &[u8], endianness: Endianness) -> ValueU32
+    ensures { λ r. ⌜ paperU32 r ≡ valueOf 4 unsigned endianness (now (slice .entry)) ⌝ }
+{
+    if slice.len() < 4 {
+        return ValueU32::Short;
+    }
+    ValueU32::Is(first(slice, 4, endianness) as u32)
+}
+
+pub fn parse_u64(slice: &[u8], endianness: Endianness) -> ValueU64
+    ensures { λ r. ⌜ paperU64 r ≡ valueOf 8 unsigned endianness (now (slice .entry)) ⌝ }
+{
+    if slice.len() < 8 {
+        return ValueU64::Short;
+    }
+    ValueU64::Is(first(slice, 8, endianness))
+}
+
+// A character is its byte.
+pub fn parse_char(slice: &[u8], endianness: Endianness) -> ValueU8
+    ensures { λ r. ⌜ paperU8 r ≡ valueOf 1 unsigned endianness (now (slice .entry)) ⌝ }
+{
+    parse_u8(slice, endianness)
+}
+
+pub fn parse_i8(slice: &[u8], endianness: Endianness) -> ValueI8
+    ensures { λ r. ⌜ paperI8 r ≡ valueOf 1 (signed 8) endianness (now (slice .entry)) ⌝ }
+{
+    let ValueU8::Is(n) = parse_u8(slice, endianness) else {
+        return ValueI8::Short;
+    };
+    ValueI8::Is(signed8(n))
+}
+
+pub fn parse_i16(slice: &[u8], endianness: Endianness) -> ValueI16
+    ensures { λ r. ⌜ paperI16 r ≡ valueOf 2 (signed 16) endianness (now (slice .entry)) ⌝ }
+{
+    let ValueU16::Is(n) = parse_u16(slice, endianness) else {
+        return ValueI16::Short;
+    };
+    ValueI16::Is(signed16(n))
+}
+
+pub fn parse_i32(slice: &[u8], endianness: Endianness) -> ValueI32
+    ensures { λ r. ⌜ paperI32 r ≡ valueOf 4 (signed 32) endianness (now (slice .entry)) ⌝ }
+{
+    let ValueU32::Is(n) = parse_u32(slice, endianness) else {
+        return ValueI32::Short;
+    };
+    ValueI32::Is(signed32(n))
+}
+
+pub fn parse_i64(slice: &[u8], endianness: Endianness) -> ValueI64
+    ensures { λ r. ⌜ paperI64 r ≡ valueOf 8 (signed 64) endianness (now (slice .entry)) ⌝ }
+{
+    let ValueU64::Is(n) = parse_u64(slice, endianness) else {
+        return ValueI64::Short;
+    };
+    ValueI64::Is(signed64(n))
+}
+
+pub fn parse_f32(slice: &[u8], endianness: Endianness) -> ValueF32
+    ensures { λ r. ⌜ paperF32 r ≡ valueOf 4 (float binary32) endianness (now (slice .entry)) ⌝ }
+{
+    let ValueU32::Is(n) = parse_u32(slice, endianness) else {
+        return ValueF32::Short;
+    };
+    if 0x7f80_0000 < n % 0x8000_0000 {
+        return ValueF32::Nan(n);
+    }
+    ValueF32::Is(f32::from_bits(n))
+}
+
+pub fn parse_f64(slice: &[u8], endianness: Endianness) -> ValueF64
+    ensures { λ r. ⌜ paperF64 r ≡ valueOf 8 (float binary64) endianness (now (slice .entry)) ⌝ }
+{
+    let ValueU64::Is(n) = parse_u64(slice, endianness) else {
+        return ValueF64::Short;
+    };
+    if 0x7ff0_0000_0000_0000 < n % 0x8000_0000_0000_0000 {
+        return ValueF64::Nan(n);
+    }
+    ValueF64::Is(f64::from_bits(n))
+}
+
+// A kind's name in a catalogue: its bytes, zeros after them, and how many there are.
+pub struct Name {
+    pub bytes: [u8; 8],
+    pub len: usize,
+}
+
+pub fn blender_name_char() -> Name
+    ensures { λ r. ⌜ r ≡ named (ascii "char") ⌝ }
+{
+    Name {
+        bytes: [b'c', b'h', b'a', b'r', 0, 0, 0, 0],
+        len: 4,
+    }
+}
+
+pub fn blender_name_i8() -> Name
+    ensures { λ r. ⌜ r ≡ named (ascii "char") ⌝ }
+{
+    Name {
+        bytes: [b'c', b'h', b'a', b'r', 0, 0, 0, 0],
+        len: 4,
+    }
+}
+
+pub fn blender_name_u8() -> Name
+    ensures { λ r. ⌜ r ≡ named (ascii "uchar") ⌝ }
+{
+    Name {
+        bytes: [b'u', b'c', b'h', b'a', b'r', 0, 0, 0],
+        len: 5,
+    }
+}
+
+pub fn blender_name_u16() -> Name
+    ensures { λ r. ⌜ r ≡ named (ascii "ushort") ⌝ }
+{
+    Name {
+        bytes: [b'u', b's', b'h', b'o', b'r', b't', 0, 0],
+        len: 6,
+    }
+}
+
+pub fn blender_name_i16() -> Name
+    ensures { λ r. ⌜ r ≡ named (ascii "short") ⌝ }
+{
+    Name {
+        bytes: [b's', b'h', b'o', b'r', b't', 0, 0, 0],
+        len: 5,
+    }
+}
+
+pub fn blender_name_i32() -> Name
+    ensures { λ r. ⌜ r ≡ named (ascii "int") ⌝ }
+{
+    Name {
+        bytes: [b'i', b'n', b't', 0, 0, 0, 0, 0],
+        len: 3,
+    }
+}
+
+pub fn blender_name_u32() -> Name
+    ensures { λ r. ⌜ r ≡ named (ascii "ulong") ⌝ }
+{
+    Name {
+        bytes: [b'u', b'l', b'o', b'n', b'g', 0, 0, 0],
+        len: 5,
+    }
+}
+
+pub fn blender_name_f32() -> Name
+    ensures { λ r. ⌜ r ≡ named (ascii "float") ⌝ }
+{
+    Name {
+        bytes: [b'f', b'l', b'o', b'a', b't', 0, 0, 0],
+        len: 5,
+    }
+}
+
+pub fn blender_name_f64() -> Name
+    ensures { λ r. ⌜ r ≡ named (ascii "double") ⌝ }
+{
+    Name {
+        bytes: [b'd', b'o', b'u', b'b', b'l', b'e', 0, 0],
+        len: 6,
+    }
+}
+
+pub fn blender_name_u64() -> Name
+    ensures { λ r. ⌜ r ≡ named (ascii "uint64_t") ⌝ }
+{
+    Name {
+        bytes: [b'u', b'i', b'n', b't', b'6', b'4', b'_', b't'],
+        len: 8,
+    }
+}
+
+pub fn blender_name_i64() -> Name
+    ensures { λ r. ⌜ r ≡ named (ascii "int64_t") ⌝ }
+{
+    Name {
+        bytes: [b'i', b'n', b't', b'6', b'4', b'_', b't', 0],
+        len: 7,
+    }
+}
