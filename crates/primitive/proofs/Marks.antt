@@ -1,4 +1,4 @@
--- Laws of marks and of zero-ended strings: when two runs of bytes are the same, when one stands at a place, and where the first zero is.
+-- Laws of marks and of zero-ended strings: when two runs of bytes are the same, when one stands at a place, and where a byte stands first.
 use Prim.Native.Nat.{ℕ, zero, suc, _+_, _-_, _≤_, _<_}
 use mathlib.Core.Bool.{Bool, true, false, _&&_}
 use mathlib.Core.List.{List, [], _∷_}
@@ -9,7 +9,7 @@ use lib.Dec.{eqb}
 use native.Mathlib.Numerals.{add-one}
 use lib.ListN.{length, getD, take, drop, length-take, length-drop, drop-of-length-le}
 use lib.Seq.{drop-cons}
-use Rattle.primitive.specs.Reader.{same, stands, toZero}
+use Rattle.primitive.specs.Reader.{same, stands, before}
 
 pub same-eq : (xs ys : List ℕ) → same xs ys ≡ true → xs ≡ ys
 same-eq [] [] h = refl
@@ -58,13 +58,13 @@ stands-by s at m r f g =
     let k : at + length m - at ≡ length m = omega arith in
     decided r _ m (rw k at f) (rw k at g)
 
--- How many bytes stand before the first zero, counted on from a place.
-module _ (l : List ℕ) (i : ℕ) where
-  pub zero-here : i < length l → getD l i 0 ≡ 0 → toZero (drop i l) ≡ 0
-  zero-here h e = rw (drop-cons l i 0 h, eq-eqb _ _ e)
+-- How many bytes stand before the first that is c, counted on from a place.
+module _ (c : ℕ) (l : List ℕ) (i : ℕ) where
+  pub found-here : i < length l → getD l i 0 ≡ c → before c (drop i l) ≡ 0
+  found-here h e = rw (drop-cons l i 0 h, eq-eqb _ _ e)
 
-  pub zero-later : i < length l → (getD l i 0 ≡ 0 → ⊥) → toZero (drop i l) ≡ suc (toZero (drop (i + 1) l))
-  zero-later h e = rw (add-one, drop-cons l i 0 h, ne-eqb _ _ e)
+  pub found-later : i < length l → (getD l i 0 ≡ c → ⊥) → before c (drop i l) ≡ suc (before c (drop (i + 1) l))
+  found-later h e = rw (add-one, drop-cons l i 0 h, ne-eqb _ _ e)
 
-  pub zero-never : length l ≤ i → toZero (drop i l) ≡ 0
-  zero-never h = rw (drop-of-length-le l h)
+  pub found-never : length l ≤ i → before c (drop i l) ≡ 0
+  found-never h = rw (drop-of-length-le l h)

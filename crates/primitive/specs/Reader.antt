@@ -27,10 +27,13 @@ abbrev pub nearer : Bool → ℕ → ℕ
 nearer true n = 0
 nearer false n = suc n
 
--- how many bytes stand before the first zero; all of them where there is none
+-- how many bytes stand before the first that is c; all of them where there is none
+abbrev pub before : ℕ → List ℕ → ℕ
+before c [] = 0
+before c (b ∷ bs) = nearer (eqb b c) (before c bs)
+
 abbrev pub toZero : List ℕ → ℕ
-toZero [] = 0
-toZero (b ∷ bs) = nearer (eqb b 0) (toZero bs)
+toZero s = before 0 s
 
 -- whether two runs of bytes are the same
 abbrev pub same : List ℕ → List ℕ → Bool

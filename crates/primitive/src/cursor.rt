@@ -5,9 +5,10 @@ use crate::Fault;
 use crate::number::number;
 ghost use mathlib.Core.Path.{_≡_};
 ghost use mathlib.Core.Bool.{true, false};
-ghost use Rattle.primitive.specs.Reader.{run, room, stands, toZero};
+ghost use Rattle.primitive.specs.Reader.{run, room, stands};
 ghost use Rattle.primitive.specs.Reader.Reader.{done, bytes, skip, string, begins};
-ghost use Rattle.primitive.specs.Number as rules;
+ghost use Rattle.primitive.specs.Number as numbers;
+ghost use Rattle.primitive.specs.Reader as rules;
 ghost use Rattle.primitive.specs.Cursor.{widthOf, numbered, moved, counted, begun, partOf};
 
 pub struct Cursor {
@@ -85,13 +86,13 @@ fn stands_at(s: &[u8], at: usize, m: &[u8]) -> bool
     }
 }
 
-// How many bytes stand before the first zero.
-fn to_zero(s: &[u8]) -> usize
-    ensures { λ r. ⌜ r ≡ toZero (now (s .entry)) ⌝ }
+// How many bytes stand before the first that is c; all of them where there is none.
+pub fn before(s: &[u8], c: u8) -> usize
+    ensures { λ r. ⌜ r ≡ rules.before c (now (s .entry)) ⌝ }
 {
     let mut i = 0;
     while i < s.len() {
-        if s[i] == 0 {
+        if s[i] == c {
             return i;
         }
         i += 1;
@@ -108,7 +109,7 @@ impl Cursor {
 
     // A number of a width and an order.
     pub fn number(self, s: &[u8], width: Width, order: Endianness) -> Numbered
-        ensures { λ r. ⌜ numbered r ≡ run (rules.number order (widthOf width) done) (now (s .entry)) (self .at) ⌝ }
+        ensures { λ r. ⌜ numbered r ≡ run (numbers.number order (widthOf width) done) (now (s .entry)) (self .at) ⌝ }
     {
         let at = self.at;
         let n = width.bytes_num();
@@ -153,7 +154,7 @@ impl Cursor {
 
     // These very bytes.
     pub fn mark(self, s: &[u8], m: &[u8]) -> Moved
-        ensures { λ r. ⌜ moved r ≡ run (rules.tag (now (m .entry)) (done tt)) (now (s .entry)) (self .at) ⌝ }
+        ensures { λ r. ⌜ moved r ≡ run (numbers.tag (now (m .entry)) (done tt)) (now (s .entry)) (self .at) ⌝ }
     {
         let at = self.at;
         let n = m.len();
@@ -194,7 +195,7 @@ impl Cursor {
         if s.len() <= at {
             return Counted::Stopped(Fault::Cut(at));
         }
-        let n = to_zero(&s[at..]);
+        let n = before(&s[at..], 0);
         if n < s.len() - at {
             Counted::Is(n, Cursor { at: at + (n + 1) })
         } else {

@@ -9,17 +9,17 @@ use Rattle.primitive.proofs.cursor.Cursor.string.Tie as tie
 returns : tie.Need-returns
 returns c = counted-past (now (c .before .before .args .s)) _ (c .if1 .taken)
 
-sub-to-zero : tie.Need-sub-to-zero
-sub-to-zero c = search needs
+sub-before : tie.Need-sub-before
+sub-before c = search needs
 
-part-to-zero-start : tie.Need-part-to-zero-start
-part-to-zero-start c = search needs
+part-before-start : tie.Need-part-before-start
+part-before-start c = search needs
 
-part-to-zero-end : tie.Need-part-to-zero-end
-part-to-zero-end c = search needs
+part-before-end : tie.Need-part-before-end
+part-before-end c = search needs
 
-to-zero-requires : tie.Need-to-zero-requires
-to-zero-requires c κs = search needs
+before-requires : tie.Need-before-requires
+before-requires c κs = search needs
 
 sub-if2 : tie.Need-sub-if2
 sub-if2 c = search needs
@@ -33,22 +33,22 @@ add-t14 c = search needs
 returns-2 : tie.Need-returns-2
 returns-2 c =
     let a = c .before .before .before .before .before .args in
-    counted-in (now (a .s)) (a .self .at) _ (c .before .to-zero .ensures) (omega arith)
+    counted-in (now (a .s)) (a .self .at) _ (c .before .before2 .ensures) (omega arith)
 
 returns-3 : tie.Need-returns-3
 returns-3 c =
     let a = c .before .before .before .before .before .args in
-    counted-out (now (a .s)) (a .self .at) _ (c .before .to-zero .ensures) (omega arith)
+    counted-out (now (a .s)) (a .self .at) _ (c .before .before2 .ensures) (omega arith)
 
 pub string-spec : {M : Type 1} → statement M
 string-spec =
     tie.close
     (tie.spec
     returns
-    sub-to-zero
-    part-to-zero-start
-    part-to-zero-end
-    to-zero-requires
+    sub-before
+    part-before-start
+    part-before-end
+    before-requires
     sub-if2
     add-t13
     add-t14

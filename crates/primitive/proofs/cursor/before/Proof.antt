@@ -1,4 +1,4 @@
--- `to_zero` counts the bytes before the first zero. The invariant: the zeros so far are none, so the count goes on from here.
+-- `before` counts the bytes before the first that is c. The invariant: there was none so far, so the count goes on from here.
 use Prim.Native.Nat.{_+_, _-_, _≤_}
 use mathlib.Core.Path.{_≡_, sym}
 use native.Mathlib.Nat.{zero-add}
@@ -6,16 +6,16 @@ use native.Mathlib.Omega.{arith}
 use borrow.Author.Needs.{needs}
 use denote.Ref.{now}
 use lib.ListN.{length, drop}
-use Rattle.primitive.specs.Reader.{toZero}
-use Rattle.primitive.proofs.Marks.{zero-here, zero-later, zero-never}
-use Rattle.primitive.proofs.cursor.to_zero.Statement.{statement}
-use Rattle.primitive.proofs.cursor.to_zero.Tie as tie
+use Rattle.primitive.specs.Reader as rules
+use Rattle.primitive.proofs.Marks.{found-here, found-later, found-never}
+use Rattle.primitive.proofs.cursor.before.Statement.{statement}
+use Rattle.primitive.proofs.cursor.before.Tie as tie
 
 abbrev Inv-loop : tie.InvT-loop
-Inv-loop s i₀ i = (i ≤ length s) × (toZero s ≡ i + toZero (drop i s))
+Inv-loop s c i₀ i = (i ≤ length s) × (rules.before c s ≡ i + rules.before c (drop i s))
 
 abbrev μ-loop : tie.MeasureT-loop
-μ-loop s i₀ i = length s - i
+μ-loop s c i₀ i = length s - i
 
 loop-holds : tie.Need-loop-holds Inv-loop μ-loop
 loop-holds c = (search needs, sym (zero-add _))
@@ -27,7 +27,7 @@ returns : tie.Need-returns Inv-loop μ-loop
 returns c =
     let s = now (c .before .before .before .before .args .s) in
     let l = c .before .before .before .loop in
-    omega (arith, zero-here s (l .i) (c .before .before .loop-test .taken) (c .if1 .taken), l .inv .1)
+    omega (arith, found-here (c .before .before .before .before .args .c) s (l .i) (c .before .before .loop-test .taken) (c .if1 .taken), l .inv .1)
 
 add-i : tie.Need-add-i Inv-loop μ-loop
 add-i c = search needs
@@ -39,16 +39,16 @@ loop-again : tie.Need-loop-again Inv-loop μ-loop
 loop-again c =
     let s = now (c .before .before .before .before .args .s) in
     let l = c .before .before .before .loop in
-    (omega arith, omega (arith, zero-later s (l .i) (c .before .before .loop-test .taken) (c .if1 .left), l .inv .1))
+    (omega arith, omega (arith, found-later (c .before .before .before .before .args .c) s (l .i) (c .before .before .loop-test .taken) (c .if1 .left), l .inv .1))
 
 returns-2 : tie.Need-returns-2 Inv-loop μ-loop
 returns-2 c =
     let s = now (c .before .before .args .s) in
     let l = c .before .loop in
-    omega (arith, zero-never s (l .i) (c .loop-test .left), l .inv .1)
+    omega (arith, found-never (c .before .before .args .c) s (l .i) (c .loop-test .left), l .inv .1)
 
-pub to-zero-spec : {M : Type 1} → statement M
-to-zero-spec =
+pub before-spec : {M : Type 1} → statement M
+before-spec =
     tie.close
     (tie.spec
     Inv-loop
