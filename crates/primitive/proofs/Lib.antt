@@ -1,4 +1,5 @@
 -- Laws about the rules, for the proofs of this crate and of those above it.
+pub mod Tests
 pub mod Reading
 pub mod Same
 pub mod Unaltered
@@ -6,5 +7,6 @@ pub mod Digits
 pub mod Marks
 pub mod Signed
 pub mod Values
+pub mod Filling
 pub mod Lossless
 pub mod Examples

@@ -1,5 +1,5 @@
 -- Laws of marks and of zero-ended strings: when two runs of bytes are the same, when one stands at a place, and where a byte stands first.
-use Prim.Native.Nat.{ℕ, zero, suc, _+_, _-_, _≤_, _<_}
+use Prim.Native.Nat.{ℕ, suc, _+_, _-_, _≤_, _<_}
 use mathlib.Core.Bool.{Bool, true, false, _&&_}
 use mathlib.Core.List.{List, [], _∷_}
 use mathlib.Core.Path.{_≡_, refl, sym, ap}
@@ -9,7 +9,7 @@ use lib.Dec.{eqb}
 use native.Mathlib.Numerals.{add-one}
 use lib.ListN.{length, getD, take, drop, length-take, length-drop, drop-of-length-le}
 use lib.Seq.{drop-cons}
-use Rattle.primitive.specs.Reader.{same, stands, before}
+use Rattle.primitive.specs.Reader.{same, stands, before, nearer}
 
 pub same-eq : (xs ys : List ℕ) → same xs ys ≡ true → xs ≡ ys
 same-eq [] [] h = refl
@@ -68,3 +68,11 @@ module _ (c : ℕ) (l : List ℕ) (i : ℕ) where
 
   pub found-never : length l ≤ i → before c (drop i l) ≡ 0
   found-never h = rw (drop-of-length-le l h)
+
+pub before-le : (c : ℕ) (l : List ℕ) → before c l ≤ length l
+before-le c [] = omega arith
+before-le c (b ∷ bs) = go (eqb b c) (before-le c bs)
+  where
+    go : (t : Bool) → before c bs ≤ length bs → nearer t (before c bs) ≤ suc (length bs)
+    go true h = omega arith
+    go false h = omega arith

@@ -15,6 +15,7 @@ use Rattle.primitive.specs.Number.{spelled, number, tag}
 use Rattle.primitive.specs.Reader.{Reader, Outcome, run, then, room, zeroEnded, stands, toZero}
 use Rattle.primitive.specs.Reader.Reader.{done, refuse, stray, here, bytes, skip, string, begins}
 use Rattle.primitive.specs.Reader.Outcome.{read, fault}
+use Rattle.primitive.proofs.Tests.{held, failed}
 
 -- what the second finds from where the first ended
 abbrev pub onwards : {A B : Type 0} → Outcome A → (A → ℕ → Outcome B) → Outcome B
@@ -36,13 +37,6 @@ run-then (bytes n k) f s at = by-test (room s at n) _ _ _ _ _ (run-then (k (take
 run-then (skip n r) f s at = by-test (room s at n) _ _ _ _ _ (run-then r f s (at + n)) refl
 run-then (string k) f s at = by-test (zeroEnded s at) _ _ _ _ _ (run-then (k (toZero (drop at s))) f s (at + (toZero (drop at s) + 1))) refl
 run-then (begins m on off) f s at = by-test (stands s at m) _ _ _ _ _ (run-then on f s (at + length m)) (run-then off f s at)
-
--- a test that holds goes on with the one, and a test that fails with the other
-pub held : {A : Type 0} {b : Bool} (o p : Outcome A) → b ≡ true → (elim b as (λ (x : Bool). Outcome A) [ true ↦ o | false ↦ p ]) ≡ o
-held {A} o p e = ap (λ (b : Bool). elim b as (λ (x : Bool). Outcome A) [ true ↦ o | false ↦ p ]) e
-
-pub failed : {A : Type 0} {b : Bool} (o p : Outcome A) → b ≡ false → (elim b as (λ (x : Bool). Outcome A) [ true ↦ o | false ↦ p ]) ≡ p
-failed {A} o p e = ap (λ (b : Bool). elim b as (λ (x : Bool). Outcome A) [ true ↦ o | false ↦ p ]) e
 
 -- whether n bytes are there, asked from the front and from the place on
 pub room-past : (s : List ℕ) (at n : ℕ) → at ≤ length s → leb n (length s - at) ≡ room s at n
@@ -122,9 +116,13 @@ pub begun-out : (m s : List ℕ) (at : ℕ) → stands s at m ≡ false → read
 unfolding run
 begun-out m s at t = sym (failed _ _ t)
 
+-- a part that runs to the end
+pub to-the-end : (s : List ℕ) (at : ℕ) → take (length s - at) (drop at s) ≡ drop at s
+to-the-end s at = take-all (length s - at) (drop at s) (omega (arith, length-drop at s))
+
 module _ (s : List ℕ) (at n : ℕ) (e : n ≡ toZero (take (length s - at) (drop at s))) where
   from-here : n ≡ toZero (drop at s)
-  from-here = e ∙ ap toZero (take-all (length s - at) (drop at s) (omega (arith, length-drop at s)))
+  from-here = e ∙ ap toZero (to-the-end s at)
 
   pub counted-in : at + n < length s → read n (at + (n + 1)) ≡ run (string done) s at
   unfolding run
@@ -136,19 +134,16 @@ module _ (s : List ℕ) (at n : ℕ) (e : n ≡ toZero (take (length s - at) (dr
 pub counted-past : (s : List ℕ) (at : ℕ) → length s ≤ at → _≡_ {A = Outcome ℕ} (fault (Cut at)) (run (string done) s at)
 counted-past s at h = sym (string-out _ _ _ (omega arith))
 
-part-by : List ℕ → ℕ → ℕ → Bool → List ℕ
-part-by s at n b = elim b as (λ (x : Bool). List ℕ) [ true ↦ take n (drop at s) | false ↦ [] ]
-
 module _ (s : List ℕ) (at n : ℕ) where
   pub part-in : at + n ≤ length s → take (at + n - at) (drop at s) ≡ partOf s at n
-  unfolding partOf part-by
+  unfolding partOf
   part-in h =
       let k : at + n - at ≡ n = omega arith in
-      rw k (sym (ap (part-by s at n) (le-leb _ _ h)))
+      rw k (sym (held _ _ (le-leb _ _ h)))
 
   pub part-out : length s < at + n → [] ≡ partOf s at n
-  unfolding partOf part-by
-  part-out h = sym (ap (part-by s at n) (lt-leb _ _ h))
+  unfolding partOf
+  part-out h = sym (failed _ _ (lt-leb _ _ h))
 
 module _ (e : Endianness) (s : List ℕ) (at n w : ℕ) (same : n ≡ w) where
   pub numbered-in : at + n ≤ length s → (r : ℕ) → r ≡ spelled e (take (at + n - at) (drop at s)) → read r (at + n) ≡ run (number e w done) s at

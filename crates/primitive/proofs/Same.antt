@@ -10,7 +10,7 @@ use Rattle.primitive.specs.declared.Fault.the-variants.{Cut}
 use Rattle.primitive.specs.Reader.{Reader, Outcome, run, room, zeroEnded, stands, toZero}
 use Rattle.primitive.specs.Reader.Reader.{done, refuse, stray, here, bytes, skip, string, begins}
 use Rattle.primitive.specs.Reader.Outcome.{read, fault}
-use Rattle.primitive.proofs.Reading.{held, failed}
+use Rattle.primitive.proofs.Tests.{held, failed}
 
 -- t, from `to`, shows what s shows from `at`, wherever the tree looks
 abbrev pub Same : {A : Type 0} → Reader A → List ℕ → ℕ → List ℕ → ℕ → Type 0

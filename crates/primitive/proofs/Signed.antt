@@ -1,16 +1,17 @@
 -- Two's complement, over the width: what `as` gives below half of the range, and what -1 less the distance from the top gives above it.
 use Prim.Native.Nat.{ℕ, zero, suc, _-_, _^_, _≤_, _<_}
-use mathlib.Core.Bool.{Bool, true, false, cond}
+use mathlib.Core.Bool.{Bool, cond}
 use mathlib.Core.Path.{_≡_, refl, sym, _∙_, ap}
 use native.Mathlib.Nat.{zero-add, two-pow-succ}
 use native.Mathlib.Omega.{arith}
 use borrow.Author.Tests.{lt-ltb, le-ltb}
 use lib.Dec.{ltb}
-use lib.IntN.{ℤ, pos, negsuc, subℕ, _-ℤ_}
+use lib.IntN.{ℤ, pos, negsuc, _-ℤ_}
 use mir.Syntax.{Width}
 use mir.Val.{bits, hbits, SFits, ofZ, toZ}
 use mir.ValLaws.{bits-suc, toZ-pos, toZ-ofZ}
 use Rattle.primitive.specs.Number.{twos}
+use Rattle.primitive.proofs.Tests.{held, failed}
 
 minus-one : (m : ℕ) → negsuc 0 -ℤ pos m ≡ negsuc m
 minus-one zero = refl
@@ -22,15 +23,11 @@ module _ (w : Width) (n : ℕ) where
       let e : bits w - 1 ≡ hbits w = omega (arith, bits-suc w) in
       rw e t
 
-  by : Bool → ℤ
-  by b = elim b as (λ (x : Bool). ℤ) [ true ↦ pos n | false ↦ subℕ n (2 ^ bits w) ]
-
   less : Bool → ℤ
   less b = cond b (negsuc (2 ^ bits w - suc n)) (pos (n - 2 ^ bits w))
 
   pub low : n < 2 ^ hbits w → toZ w n ≡ twos (bits w) n
-  unfolding by
-  low h = toZ-pos w n h ∙ sym (ap by (test (lt-ltb _ _ h)))
+  low h = toZ-pos w n h ∙ sym (held _ _ (test (lt-ltb _ _ h)))
 
   module _ (l : 2 ^ hbits w ≤ n) (h : n < 2 ^ bits w) where
     far : 2 ^ bits w - 1 - n < 2 ^ hbits w
@@ -43,7 +40,7 @@ module _ (w : Width) (n : ℕ) where
     high-fits = rw down (record { sfits = far })
 
     pub high : toZ w (ofZ w (negsuc 0 -ℤ toZ w (2 ^ bits w - 1 - n))) ≡ twos (bits w) n
-    unfolding by less
+    unfolding less
     high =
         let e : 2 ^ bits w - 1 - n ≡ 2 ^ bits w - suc n = omega arith in
-        toZ-ofZ w _ high-fits ∙ down ∙ ap negsuc e ∙ sym (ap by (test (le-ltb _ _ l)) ∙ ap less (lt-ltb _ _ h))
+        toZ-ofZ w _ high-fits ∙ down ∙ ap negsuc e ∙ sym (failed _ _ (test (le-ltb _ _ l)) ∙ ap less (lt-ltb _ _ h))

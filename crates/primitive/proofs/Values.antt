@@ -14,55 +14,49 @@ use Rattle.primitive.specs.Number.{spelled}
 use Rattle.primitive.specs.Paper.{Paper}
 use Rattle.primitive.specs.Paper.Paper.{accepts, real, refuses}
 use Rattle.primitive.specs.Primitive.{valueOf, unsigned, float}
+use Rattle.primitive.proofs.Tests.{held, failed}
 use Rattle.primitive.proofs.Digits.{Bytes, spelled-lt}
 
 module _ (width : ℕ) (kind : ℕ → Paper) (e : Endianness) (s : List ℕ) where
-  by : (ℕ → Paper) → Bool → Paper
-  by k b = elim b as (λ (x : Bool). Paper) [ true ↦ refuses 12 [] | false ↦ k (spelled e (take width s)) ]
-
   -- a slice that is too short, and one that is not
   pub too-short : length s < width → refuses 12 [] ≡ valueOf width kind e s
-  unfolding valueOf by
-  too-short h = sym (ap (by kind) (lt-ltb _ _ h))
+  unfolding valueOf
+  too-short h = sym (held _ _ (lt-ltb _ _ h))
 
   pub long-enough : width ≤ length s → (n : ℕ) → n ≡ spelled e (take width s) → kind n ≡ valueOf width kind e s
-  unfolding valueOf by
-  long-enough h n t = ap kind t ∙ sym (ap (by kind) (le-ltb _ _ h))
+  unfolding valueOf
+  long-enough h n t = ap kind t ∙ sym (failed _ _ (le-ltb _ _ h))
 
   -- where the unsigned number is refused so is any other kind, and where it is read the kind is told of that number
   pub refused-too : refuses 12 [] ≡ valueOf width unsigned e s → refuses 12 [] ≡ valueOf width kind e s
-  unfolding valueOf by
+  unfolding valueOf
   refused-too h = go (ltb (length s) width) refl
     where
       go : (b : Bool) → ltb (length s) width ≡ b → refuses 12 [] ≡ valueOf width kind e s
-      go true t = sym (ap (by kind) t)
+      go true t = sym (held _ _ t)
       go false t =
-          let g : refuses 12 [] ≡ unsigned (spelled e (take width s)) = h ∙ ap (by unsigned) t in
+          let g : refuses 12 [] ≡ unsigned (spelled e (take width s)) = h ∙ failed _ _ t in
           let z : _≡_ {A = ℕ} 0 1 = cc in
           absurd (omega arith)
 
   pub read-too : (n : ℕ) → unsigned n ≡ valueOf width unsigned e s → kind n ≡ valueOf width kind e s
-  unfolding valueOf by
+  unfolding valueOf
   read-too n h = go (ltb (length s) width) refl
     where
       go : (b : Bool) → ltb (length s) width ≡ b → kind n ≡ valueOf width kind e s
       go true t =
-          let g : unsigned n ≡ refuses 12 [] = h ∙ ap (by unsigned) t in
+          let g : unsigned n ≡ refuses 12 [] = h ∙ held _ _ t in
           let z : _≡_ {A = ℕ} 0 1 = cc in
           absurd (omega arith)
       go false t =
-          let g : unsigned n ≡ unsigned (spelled e (take width s)) = h ∙ ap (by unsigned) t in
+          let g : unsigned n ≡ unsigned (spelled e (take width s)) = h ∙ failed _ _ t in
           let q : n ≡ spelled e (take width s) = cc in
-          ap kind q ∙ sym (ap (by kind) t)
+          ap kind q ∙ sym (failed _ _ t)
 
 -- Floats: which patterns are a NaN's, how each is told, and that the others come back from the float, bit for bit.
 module _ (f : Format) (n : ℕ) where
-  as-float : Bool → Paper
-  as-float b = elim b as (λ (x : Bool). Paper) [ true ↦ accepts 1 (n ∷ []) | false ↦ real (ofBits f n) ]
-
   pub nan-told : ones f * hid f < n % top f → accepts 1 (n ∷ []) ≡ float f n
-  unfolding as-float
-  nan-told h = sym (ap as-float (nanBits-above f n ∙ lt-ltb _ _ h))
+  nan-told h = sym (held _ _ (nanBits-above f n ∙ lt-ltb _ _ h))
 
   no-nan : n % top f ≤ ones f * hid f → nanBits f n ≡ false
   no-nan h = nanBits-above f n ∙ le-ltb _ _ h
@@ -71,8 +65,7 @@ module _ (f : Format) (n : ℕ) where
   may-be-made h = rw (no-nan h) tt
 
   pub float-told : n % top f ≤ ones f * hid f → real (ofBits f n) ≡ float f n
-  unfolding as-float
-  float-told h = sym (ap as-float (no-nan h))
+  float-told h = sym (failed _ _ (no-nan h))
 
   bits-back : n < 2 * top f → nanBits f n ≡ false → toBits f (ofBits f n) ≡ n
   bits-back h t =
@@ -80,29 +73,28 @@ module _ (f : Format) (n : ℕ) where
       toBits-ofBits f n h (rw u tt)
 
   float-is : (x : Float) → n < 2 * top f → real x ≡ float f n → toBits f x ≡ n
-  unfolding as-float
   float-is x l h = go (nanBits f n) refl
     where
       go : (b : Bool) → nanBits f n ≡ b → toBits f x ≡ n
       go true t =
-          let g : real x ≡ accepts 1 (n ∷ []) = h ∙ ap as-float t in
+          let g : real x ≡ accepts 1 (n ∷ []) = h ∙ held _ _ t in
           cc
       go false t =
-          let g : real x ≡ real (ofBits f n) = h ∙ ap as-float t in
+          let g : real x ≡ real (ofBits f n) = h ∙ failed _ _ t in
           let q : x ≡ ofBits f n = cc in
           rw q (bits-back l t)
 
 -- The bits of a float that was answered are the bits that were read.
 pub float-bits : (f : Format) (width : ℕ) (e : Endianness) (s : List ℕ) (x : Float) → Bytes s → 256 ^ width ≡ 2 * top f → real x ≡ valueOf width (float f) e s
     → toBits f x ≡ spelled e (take width s)
-unfolding valueOf by
+unfolding valueOf
 float-bits f width e s x b w h = go (ltb (length s) width) refl
   where
     go : (c : Bool) → ltb (length s) width ≡ c → toBits f x ≡ spelled e (take width s)
     go true t =
-        let g : real x ≡ refuses 12 [] = h ∙ ap (by width (float f) e s (float f)) t in
+        let g : real x ≡ refuses 12 [] = h ∙ held _ _ t in
         cc
     go false t =
-        let g : real x ≡ float f (spelled e (take width s)) = h ∙ ap (by width (float f) e s (float f)) t in
+        let g : real x ≡ float f (spelled e (take width s)) = h ∙ failed _ _ t in
         let l : spelled e (take width s) < 2 * top f = rw w at (spelled-lt e s width b (ltb-false _ _ t)) in
         float-is f (spelled e (take width s)) x l g

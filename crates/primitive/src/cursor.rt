@@ -71,7 +71,7 @@ fn has(s: &[u8], at: usize, n: usize) -> bool
 }
 
 // Whether the bytes m stand at this place.
-fn stands_at(s: &[u8], at: usize, m: &[u8]) -> bool
+pub fn stands_at(s: &[u8], at: usize, m: &[u8]) -> bool
     ensures { λ r. ⌜ r ≡ stands (now (s .entry)) at (now (m .entry)) ⌝ }
 {
     let n = m.len();
