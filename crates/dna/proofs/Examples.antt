@@ -1,8 +1,15 @@
 -- The rules at small inputs, computed.
-use mathlib.Core.List.{[], _∷_}
+use Prim.Native.Nat.{ℕ, _*_, _%_}
+use mathlib.Core.List.{List, [], _∷_, _++_}
 use mathlib.Core.Path.{_≡_, refl}
+use native.Mathlib.Omega.{arith}
+use Rattle.primitive.specs.declared.Endianness.the-variants.{Little, Big}
+use Rattle.primitive.specs.declared.Fault.the-variants.{Cut, Mark}
 use Rattle.primitive.specs.Ascii.{ascii}
 use Rattle.primitive.specs.Paper.Paper.{accepts, refuses}
+use Rattle.primitive.specs.Reader.{run, then, times}
+use Rattle.primitive.specs.Reader.Outcome.{read, fault}
+use Rattle.dna.specs.Catalogue.{catalogue, listed, strings, sized, struct, structured, padding, rooms, readAs, answerFor, fieldCount, pairs, typeRows, structRows, fieldRows, namesTable, typesTable, structsTable, fieldsTable}
 use Rattle.dna.specs.Declarators.{isFunction, taken, groups, spanned, digits, decimal, numbers, product, pointerOrValue, declared, scannedAs, parsedAs, filledBy}
 
 -- an array with no complete bracket; no number; a sign; a pointer array
@@ -25,3 +32,39 @@ orders : (parsedAs (declared (ascii "a[x][1]")) 1 ≡ refuses 9 []) × (parsedAs
     × (filledBy (declared (ascii "a[18446744073709551615][2]")) (7 ∷ 7 ∷ 7 ∷ []) ≡ 7 ∷ 7 ∷ 7 ∷ [])
 unfolding declared pointerOrValue isFunction groups taken spanned numbers decimal digits product
 orders = (refl, refl, refl, refl, refl)
+
+-- A catalogue with the name "x", the type "int" of size 4 and one struct of type 0 with the field (0, 0); its padding holds sevens.
+unfoldable small : List ℕ
+small =
+    ascii "SDNANAME" ++ (1 ∷ 0 ∷ 0 ∷ 0 ∷ 120 ∷ 0 ∷ 7 ∷ 7 ∷ []) ++ ascii "TYPE" ++ (1 ∷ 0 ∷ 0 ∷ 0 ∷ []) ++ ascii "int" ++ (0 ∷ [])
+    ++ ascii "TLEN" ++ (4 ∷ 0 ∷ 7 ∷ 7 ∷ []) ++ ascii "STRC" ++ (1 ∷ 0 ∷ 0 ∷ 0 ∷ 0 ∷ 0 ∷ 1 ∷ 0 ∷ 0 ∷ 0 ∷ 0 ∷ 0 ∷ [])
+
+catalogued : run (catalogue Little) small 0 ≡ read (record { names = (12, 1) ∷ []; types = (24, 3) ∷ []; sizes = 4 ∷ []; structs = (0, ((0, 0) ∷ [])) ∷ [] }) 52
+unfolding run then times catalogue listed strings sized structured struct small
+catalogued = refl
+
+-- Two names, the second empty: 3 bytes with their zeros, so 1 of padding. No types. Two structs, of 1 and of 2 fields: the first field rows are 0 and 1.
+unfoldable wide : List ℕ
+wide =
+    ascii "SDNANAME" ++ (0 ∷ 0 ∷ 0 ∷ 2 ∷ 120 ∷ 0 ∷ 0 ∷ 9 ∷ []) ++ ascii "TYPE" ++ (0 ∷ 0 ∷ 0 ∷ 0 ∷ []) ++ ascii "TLEN" ++ ascii "STRC" ++ (0 ∷ 0 ∷ 0 ∷ 2 ∷ [])
+    ++ (0 ∷ 5 ∷ 0 ∷ 1 ∷ 0 ∷ 6 ∷ 1 ∷ 0 ∷ []) ++ (0 ∷ 8 ∷ 0 ∷ 2 ∷ 0 ∷ 1 ∷ 0 ∷ 2 ∷ 0 ∷ 3 ∷ 0 ∷ 4 ∷ []) ++ ascii "and more"
+
+-- the counts, a table one row short, and what the tables hold afterwards
+tabled : (readAs (run (catalogue Big) wide 0) (rooms 4 0 6 6) ≡ accepts 0 (2 ∷ 0 ∷ 2 ∷ 3 ∷ [])) × (readAs (run (catalogue Big) wide 0) (rooms 4 0 5 5) ≡ refuses 8 (3 ∷ 2 ∷ []))
+    × (readAs (run (catalogue Little) wide 0) (rooms 0 0 0 0) ≡ refuses 2 [])
+    × (namesTable (run (catalogue Big) wide 0) (rooms 5 0 6 6) (7 ∷ 7 ∷ 7 ∷ 7 ∷ 7 ∷ []) ≡ 12 ∷ 1 ∷ 14 ∷ 0 ∷ 7 ∷ [])
+    × (typesTable (run (catalogue Big) wide 0) (rooms 4 1 6 6) (7 ∷ []) ≡ 7 ∷ [])
+    × (structsTable (run (catalogue Big) wide 0) (rooms 4 0 6 6) (7 ∷ 7 ∷ 7 ∷ 7 ∷ 7 ∷ 7 ∷ []) ≡ 5 ∷ 0 ∷ 1 ∷ 8 ∷ 1 ∷ 2 ∷ [])
+    × (fieldsTable (run (catalogue Big) wide 0) (rooms 4 0 6 6) (7 ∷ 7 ∷ 7 ∷ 7 ∷ 7 ∷ 7 ∷ []) ≡ 6 ∷ 256 ∷ 1 ∷ 2 ∷ 3 ∷ 4 ∷ [])
+    × (fieldsTable (run (catalogue Big) wide 0) (rooms 3 0 6 6) (7 ∷ 7 ∷ 7 ∷ 7 ∷ 7 ∷ 7 ∷ []) ≡ 7 ∷ 7 ∷ 7 ∷ 7 ∷ 7 ∷ 7 ∷ [])
+unfolding run then times catalogue listed strings sized structured struct wide readAs answerFor fieldCount pairs typeRows structRows fieldRows
+tabled = (refl, refl, refl, refl, refl, refl, refl, refl)
+
+-- the earliest read that fails stops the reading: a mark that is another, and a list that ends before its count
+stopped : (run (catalogue Little) (ascii "SDNANAMF") 0 ≡ fault (Mark 4)) × (run (catalogue Little) (ascii "SDNANAME" ++ (255 ∷ 255 ∷ 255 ∷ 255 ∷ 120 ∷ 0 ∷ [])) 0 ≡ fault (Cut 14))
+unfolding run then times catalogue listed strings sized structured struct
+stopped = (refl, refl)
+
+-- m sizes of 2 bytes have padding of 2 bytes if m is odd, and none if it is even
+sizesPadding : (m : ℕ) → padding (2 * m) ≡ 2 * (m % 2)
+sizesPadding m = omega arith

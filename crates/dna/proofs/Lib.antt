@@ -6,3 +6,7 @@ pub mod Scans
 pub mod Told
 pub mod Lossless
 pub mod Examples
+pub mod Counting
+pub mod Layouts
+pub mod Rows
+pub mod Answers

@@ -1,1 +1,2 @@
+pub mod dna;
 pub mod field;

@@ -23,7 +23,7 @@ both P Q R (read a next) f p q = f a next p q
 both P Q R (fault x) f p q = tt
 
 -- what holds of both ways of a test holds of the way that is taken
-way : {A : Type 0} (P : A → ℕ → Type 0) (b : Bool) (o p : Outcome A) → (b ≡ true → Finds o P) → (b ≡ false → Finds p P)
+pub way : {A : Type 0} (P : A → ℕ → Type 0) (b : Bool) (o p : Outcome A) → (b ≡ true → Finds o P) → (b ≡ false → Finds p P)
     → Finds (elim b as (λ (c : Bool). Outcome A) [ true ↦ o | false ↦ p ]) P
 way P true o p f g = f refl
 way P false o p f g = g refl

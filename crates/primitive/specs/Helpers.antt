@@ -1,9 +1,32 @@
--- What a helper inside the crate ensures. No rule uses it.
-use Prim.Native.Nat.{ℕ, _-_}
+-- What helpers of the code ensure. No rule uses it.
+use Prim.Native.Nat.{ℕ, zero, suc, _+_, _-_}
+use mathlib.Core.List.{List, [], _∷_}
+use lib.ListN.{set}
 use Rattle.primitive.specs.declared.Endianness.{Endianness}
 use Rattle.primitive.specs.declared.Endianness.the-variants.{Little, Big}
+use Rattle.primitive.specs.Reader.{Reader, Outcome, run}
+use Rattle.primitive.specs.Reader.Outcome.{read, fault}
 
 -- where the byte that is i-th from the least significant stands among len bytes, for i below len
 abbrev pub placed : Endianness → ℕ → ℕ → ℕ
 placed Little i len = i
 placed Big i len = len - 1 - i
+
+-- how far a tree came, or its fault, without what it found
+abbrev pub past : {A : Type 0} → Outcome A → Outcome (Unit {0})
+past (read a next) = read tt next
+past (fault f) = fault f
+
+-- what a tree finds again and again, at most n times, up to its first fault
+abbrev pub goOn : {A : Type 0} → Outcome A → (ℕ → List A) → List A
+goOn (read a next) f = a ∷ f next
+goOn (fault x) f = []
+
+unfoldable pub leading : {A : Type 0} → ℕ → Reader A → List ℕ → ℕ → List A
+leading zero r s at = []
+leading (suc n) r s at = goOn (run r s at) (leading n r s)
+
+-- a table with these numbers stored from a place on, one after another
+unfoldable pub put : List ℕ → ℕ → List ℕ → List ℕ
+put t i [] = t
+put t i (v ∷ vs) = put (set t i v) (i + 1) vs

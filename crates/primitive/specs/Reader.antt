@@ -1,6 +1,6 @@
 -- What reading is: a tree of reads, and what a tree finds in a run of bytes. A tree looks at bytes in no other way than by its reads, so
 -- what a find depends on is proved once, of every tree (proofs/Unaltered.antt).
-use Prim.Native.Nat.{ℕ, suc, _+_, _-_}
+use Prim.Native.Nat.{ℕ, zero, suc, _+_, _-_}
 use mathlib.Core.Bool.{Bool, true, false, _&&_}
 use mathlib.Core.List.{List, [], _∷_}
 use lib.Dec.{leb, ltb, eqb}
@@ -75,3 +75,9 @@ then (bytes n k) f = bytes n (λ b. then (k b) f)
 then (skip n r) f = skip n (then r f)
 then (string k) f = string (λ n. then (k n) f)
 then (begins m on off) f = begins m (then on f) (then off f)
+
+-- n times the same tree
+unfoldable pub times : {A : Type 0} → ℕ → Reader A → Reader (List A)
+unfolding then
+times zero r = done []
+times (suc n) r = then r (λ a. then (times n r) (λ rest. done (a ∷ rest)))

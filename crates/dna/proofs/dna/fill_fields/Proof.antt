@@ -1,0 +1,77 @@
+-- `fill_fields`: struct after struct, each from where the rows of the last ended.
+use Prim.Native.Nat.{_+_, _-_}
+use native.Mathlib.Omega.{arith}
+use borrow.Author.Needs.{needs}
+use denote.Ref.{now}
+use Rattle.primitive.specs.Helpers.{leading}
+use Rattle.primitive.proofs.Filling.{Storing, storing-from-front, storing-ends}
+use Rattle.dna.specs.Catalogue.{pairs, fieldRows, field, struct}
+use Rattle.dna.proofs.Rows.{row-fits, row-stored, fields-more, fields-no-more, fields-none}
+use Rattle.dna.proofs.dna.fill_fields.Statement.{statement}
+use Rattle.dna.proofs.dna.fill_fields.Tie as tie
+
+abbrev Inv-loop : tie.InvT-loop
+Inv-loop s e at n table₀ here₀ left₀ i₀ table here left i =
+    Storing table₀ 0 (fieldRows (leading n (struct e) s at)) table i (fieldRows (leading left (struct e) s (here .at)))
+
+abbrev μ-loop : tie.MeasureT-loop
+μ-loop s e at n table₀ here₀ left₀ i₀ table here left i = left
+
+loop-holds : tie.Need-loop-holds Inv-loop μ-loop
+loop-holds c = storing-from-front _ _ (c .before .before .pre)
+
+one-struct-requires : tie.Need-one-struct-requires Inv-loop μ-loop
+one-struct-requires c κs = tt
+
+enum-known-count : tie.Need-enum-known-count Inv-loop μ-loop
+enum-known-count c = search needs
+
+add-fill-struct-fields : tie.Need-add-fill-struct-fields Inv-loop μ-loop
+add-fill-struct-fields c = omega (arith, (rw (c .before .before .count .given .1) at (c .before .before .before .before .one-struct .ensures)) .1, c .before .known-told .given)
+
+fill-struct-fields-requires : tie.Need-fill-struct-fields-requires Inv-loop μ-loop
+fill-struct-fields-requires c κs = row-fits _ _ _ _ _ (pairs (leading (c .before .before .before .count .given .0 .1 .0) (field (c .before .before .before .before .before .before .before .before .before .before .args .e)) (now (c .before .before .before .before .before .before .before .before .before .before .args .s)) (c .before .before .before .before .before .before .before .loop .here .at + 4))) (fieldRows (leading (c .before .before .before .before .before .before .before .loop .left - 1) (struct (c .before .before .before .before .before .before .before .before .before .before .args .e)) (now (c .before .before .before .before .before .before .before .before .before .before .args .s)) (c .before .before .before .count .given .0 .1 .1 .0 .at))) _ (c .before .before .before .before .before .before .before .loop .inv) (fields-more (c .before .before .before .before .before .before .before .before .before .before .args .e) (now (c .before .before .before .before .before .before .before .before .before .before .args .s)) _ _ (c .before .before .before .before .before .before .loop-test .taken) _ _ _ ((rw (c .before .before .before .count .given .1) at (c .before .before .before .before .before .one-struct .ensures)) .0))
+
+sub-left : tie.Need-sub-left Inv-loop μ-loop
+sub-left c = omega arith
+
+loop-less : tie.Need-loop-less Inv-loop μ-loop
+loop-less c = omega arith
+
+loop-again : tie.Need-loop-again Inv-loop μ-loop
+loop-again c = row-stored _ _ _ _ _ (pairs (leading (c .before .before .before .before .before .before .count .given .0 .1 .0) (field (c .before .before .before .before .before .before .before .before .before .before .before .before .before .args .e)) (now (c .before .before .before .before .before .before .before .before .before .before .before .before .before .args .s)) (c .before .before .before .before .before .before .before .before .before .before .loop .here .at + 4))) _ _ (c .before .before .before .before .before .before .before .before .before .before .loop .inv) (fields-more (c .before .before .before .before .before .before .before .before .before .before .before .before .before .args .e) (now (c .before .before .before .before .before .before .before .before .before .before .before .before .before .args .s)) _ _ (c .before .before .before .before .before .before .before .before .before .loop-test .taken) _ _ _ ((rw (c .before .before .before .before .before .before .count .given .1) at (c .before .before .before .before .before .before .before .before .one-struct .ensures)) .0)) _ _ (c .before .before .fill-struct-fields .ensures .1) (c .before .before .fill-struct-fields .ensures .0)
+
+enum-told : tie.Need-enum-told Inv-loop μ-loop
+enum-told c = search needs
+
+same-length : tie.Need-same-length Inv-loop μ-loop
+same-length c = c .before .before .before .before .loop .inv .long
+
+returns : tie.Need-returns Inv-loop μ-loop
+returns c = storing-ends _ _ _ _ _ _ (c .before .before .before .before .loop .inv) (fields-no-more (c .before .before .before .before .before .before .before .args .e) (now (c .before .before .before .before .before .before .before .args .s)) _ _ _ (rw (c .enum-told .given .1) at (c .before .before .one-struct .ensures)))
+
+same-length-2 : tie.Need-same-length-2 Inv-loop μ-loop
+same-length-2 c = c .before .loop .inv .long
+
+returns-2 : tie.Need-returns-2 Inv-loop μ-loop
+returns-2 c = storing-ends _ _ _ _ _ _ (c .before .loop .inv) (fields-none (c .before .before .before .before .args .e) (now (c .before .before .before .before .args .s)) _ _ (c .loop-test .left))
+
+pub fill-fields-spec : {M : Type 1} → statement M
+fill-fields-spec =
+    tie.close
+    (tie.spec
+    Inv-loop
+    μ-loop
+    loop-holds
+    one-struct-requires
+    enum-known-count
+    add-fill-struct-fields
+    fill-struct-fields-requires
+    sub-left
+    loop-less
+    loop-again
+    enum-told
+    same-length
+    returns
+    same-length-2
+    returns-2)

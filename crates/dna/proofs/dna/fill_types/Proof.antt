@@ -1,0 +1,97 @@
+-- `fill_types`: as `fill_names`, with strings and sizes read side by side.
+use Prim.Native.Nat.{_-_}
+use mathlib.Core.List.{[], _∷_}
+use mathlib.Core.Path.{sym, _∙_, ap}
+use native.Mathlib.Omega.{arith}
+use borrow.Author.Needs.{needs}
+use denote.Ref.{now}
+use Rattle.primitive.specs.Cursor.{counted, numbered}
+use Rattle.primitive.specs.Helpers.{leading}
+use Rattle.primitive.proofs.Filling.{Storing, storing-from-front, storing-ends}
+use Rattle.dna.specs.Catalogue.{typeRows, place, size}
+use Rattle.dna.proofs.Counting.{place-read, place-stops}
+use Rattle.dna.proofs.Rows.{row-fits, row-stored, type-more, type-no-place, type-no-size, type-none}
+use Rattle.dna.proofs.dna.fill_types.Statement.{statement}
+use Rattle.dna.proofs.dna.fill_types.Tie as tie
+
+abbrev Inv-loop : tie.InvT-loop
+Inv-loop s e at sizesat m table₀ here₀ there₀ left₀ i₀ table here there left i =
+    Storing table₀ 0 (typeRows (leading m place s at) (leading m (size e) s sizesat)) table i (typeRows (leading left place s (here .at)) (leading left (size e) s (there .at)))
+
+abbrev μ-loop : tie.MeasureT-loop
+μ-loop s e at sizesat m table₀ here₀ there₀ left₀ i₀ table here there left i = left
+
+loop-holds : tie.Need-loop-holds Inv-loop μ-loop
+loop-holds c = storing-from-front _ _ (c .before .before .pre)
+
+string-requires : tie.Need-string-requires Inv-loop μ-loop
+string-requires c κs = tt
+
+enum-known-len : tie.Need-enum-known-len Inv-loop μ-loop
+enum-known-len c = search needs
+
+number-requires : tie.Need-number-requires Inv-loop μ-loop
+number-requires c κs = tt
+
+enum-known-size : tie.Need-enum-known-size Inv-loop μ-loop
+enum-known-size c = search needs
+
+put-three-requires : tie.Need-put-three-requires Inv-loop μ-loop
+put-three-requires c κs = row-fits _ _ _ _ _ (c .before .before .before .before .before .before .before .before .before .before .loop .here .at ∷ c .before .before .before .before .before .before .len .given .0 .0 ∷ c .before .before .size .given .0 .0 ∷ []) (typeRows (leading (c .before .before .before .before .before .before .before .before .before .before .loop .left - 1) place (now (c .before .before .before .before .before .before .before .before .before .before .before .before .before .args .s)) (c .before .before .before .before .before .before .len .given .0 .1 .0 .at)) (leading (c .before .before .before .before .before .before .before .before .before .before .loop .left - 1) (size (c .before .before .before .before .before .before .before .before .before .before .before .before .before .args .e)) (now (c .before .before .before .before .before .before .before .before .before .before .before .before .before .args .s)) (c .before .before .size .given .0 .1 .0 .at))) _ (c .before .before .before .before .before .before .before .before .before .before .loop .inv) (type-more (c .before .before .before .before .before .before .before .before .before .before .before .before .before .args .e) (now (c .before .before .before .before .before .before .before .before .before .before .before .before .before .args .s)) _ _ _ (c .before .before .before .before .before .before .before .before .before .loop-test .taken) _ _ _ _ _ (place-read (now (c .before .before .before .before .before .before .before .before .before .before .before .before .before .args .s)) _ _ _ (ap counted (sym (c .before .before .before .before .before .before .len .given .1)) ∙ c .before .before .before .before .before .before .before .before .string .ensures)) (sym (ap numbered (sym (c .before .before .size .given .1)) ∙ c .before .before .before .before .number .ensures)))
+
+sub-left : tie.Need-sub-left Inv-loop μ-loop
+sub-left c = omega arith
+
+loop-less : tie.Need-loop-less Inv-loop μ-loop
+loop-less c = omega arith
+
+loop-again : tie.Need-loop-again Inv-loop μ-loop
+loop-again c = row-stored _ _ _ _ _ (c .before .before .before .before .before .before .before .before .before .before .before .before .before .loop .here .at ∷ c .before .before .before .before .before .before .before .before .before .len .given .0 .0 ∷ c .before .before .before .before .before .size .given .0 .0 ∷ []) _ _ (c .before .before .before .before .before .before .before .before .before .before .before .before .before .loop .inv) (type-more (c .before .before .before .before .before .before .before .before .before .before .before .before .before .before .before .before .args .e) (now (c .before .before .before .before .before .before .before .before .before .before .before .before .before .before .before .before .args .s)) _ _ _ (c .before .before .before .before .before .before .before .before .before .before .before .before .loop-test .taken) _ _ _ _ _ (place-read (now (c .before .before .before .before .before .before .before .before .before .before .before .before .before .before .before .before .args .s)) _ _ _ (ap counted (sym (c .before .before .before .before .before .before .before .before .before .len .given .1)) ∙ c .before .before .before .before .before .before .before .before .before .before .before .string .ensures)) (sym (ap numbered (sym (c .before .before .before .before .before .size .given .1)) ∙ c .before .before .before .before .before .before .before .number .ensures))) _ _ (c .before .before .put-three .ensures .1) (c .before .before .put-three .ensures .0)
+
+enum-told : tie.Need-enum-told Inv-loop μ-loop
+enum-told c = search needs
+
+same-length : tie.Need-same-length Inv-loop μ-loop
+same-length c = c .before .before .before .before .before .before .before .before .loop .inv .long
+
+returns : tie.Need-returns Inv-loop μ-loop
+returns c = storing-ends _ _ _ _ _ _ (c .before .before .before .before .before .before .before .before .loop .inv) (type-no-size (c .before .before .before .before .before .before .before .before .before .before .before .args .e) (now (c .before .before .before .before .before .before .before .before .before .before .before .args .s)) _ _ _ _ (sym (ap numbered (sym (c .enum-told .given .1)) ∙ c .before .before .number .ensures)))
+
+enum-told-2 : tie.Need-enum-told-2 Inv-loop μ-loop
+enum-told-2 c = search needs
+
+same-length-2 : tie.Need-same-length-2 Inv-loop μ-loop
+same-length-2 c = c .before .before .before .before .loop .inv .long
+
+returns-2 : tie.Need-returns-2 Inv-loop μ-loop
+returns-2 c = storing-ends _ _ _ _ _ _ (c .before .before .before .before .loop .inv) (type-no-place (c .before .before .before .before .before .before .before .args .e) (now (c .before .before .before .before .before .before .before .args .s)) _ _ _ _ (place-stops (now (c .before .before .before .before .before .before .before .args .s)) _ _ (ap counted (sym (c .enum-told2 .given .1)) ∙ c .before .before .string .ensures)))
+
+same-length-3 : tie.Need-same-length-3 Inv-loop μ-loop
+same-length-3 c = c .before .loop .inv .long
+
+returns-3 : tie.Need-returns-3 Inv-loop μ-loop
+returns-3 c = storing-ends _ _ _ _ _ _ (c .before .loop .inv) (type-none (c .before .before .before .before .args .e) (now (c .before .before .before .before .args .s)) _ _ _ (c .loop-test .left))
+
+pub fill-types-spec : {M : Type 1} → statement M
+fill-types-spec =
+    tie.close
+    (tie.spec
+    Inv-loop
+    μ-loop
+    loop-holds
+    string-requires
+    enum-known-len
+    number-requires
+    enum-known-size
+    put-three-requires
+    sub-left
+    loop-less
+    loop-again
+    enum-told
+    same-length
+    returns
+    enum-told-2
+    same-length-2
+    returns-2
+    same-length-3
+    returns-3)

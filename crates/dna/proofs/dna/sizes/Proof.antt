@@ -1,0 +1,81 @@
+-- `sizes`: the mark, the sizes, and the padding over their bytes: 2 bytes each.
+use mathlib.Core.Path.{sym, _∙_, ap}
+use native.Mathlib.Omega.{arith}
+use borrow.Author.Needs.{needs}
+use denote.Ref.{now}
+use Rattle.primitive.specs.Cursor.{moved}
+use Rattle.dna.specs.Catalogue.{size}
+use Rattle.dna.proofs.Counting.{all-many, all-after, all-within, no-tlen, sizes-stop, sizes-padding-stops, sizes-read}
+use Rattle.dna.proofs.dna.sizes.Statement.{statement}
+use Rattle.dna.proofs.dna.sizes.Tie as tie
+
+slice-aggregate-mark : tie.Need-slice-aggregate-mark
+slice-aggregate-mark c = search needs
+
+mark-requires : tie.Need-mark-requires
+mark-requires c κs = search needs
+
+enum-known-f : tie.Need-enum-known-f
+enum-known-f c = search needs
+
+enum-known-from : tie.Need-enum-known-from
+enum-known-from c = search needs
+
+sizes-past-requires : tie.Need-sizes-past-requires
+sizes-past-requires c κs = search needs
+
+enum-known-f-2 : tie.Need-enum-known-f-2
+enum-known-f-2 c = search needs
+
+enum-known-end : tie.Need-enum-known-end
+enum-known-end c = search needs
+
+sub-padding : tie.Need-sub-padding
+sub-padding c = all-after (size (c .before .before .before .before .before .before .before .before .before .before .before .before .args .e)) (now (c .before .before .before .before .before .before .before .before .before .before .before .before .args .s)) _ _ _ (ap moved (sym (c .before .before .before .end .given .1)) ∙ c .before .before .before .before .before .sizes-past .ensures)
+
+padding-requires : tie.Need-padding-requires
+padding-requires c κs =
+    let h = all-within (size (c .before .before .before .before .before .before .before .before .before .before .before .before .args .e)) (now (c .before .before .before .before .before .before .before .before .before .before .before .before .args .s)) _ _ _ (ap moved (sym (c .before .before .before .end .given .1)) ∙ c .before .before .before .before .before .sizes-past .ensures) in
+    omega (arith, c .before .before .before .before .before .before .before .before .before .before .before .before .good)
+
+skip-requires : tie.Need-skip-requires
+skip-requires c κs = search needs
+
+enum-known-f-3 : tie.Need-enum-known-f-3
+enum-known-f-3 c = search needs
+
+enum-known-next : tie.Need-enum-known-next
+enum-known-next c = search needs
+
+returns : tie.Need-returns
+returns c = no-tlen (c .before .before .before .before .before .before .args .e) (now (c .before .before .before .before .before .before .args .s)) _ _ _ (ap moved (sym (c .before .f .given .1)) ∙ c .before .before .before .mark .ensures)
+
+returns-2 : tie.Need-returns-2
+returns-2 c = sizes-stop (c .before .before .before .before .before .before .before .before .before .before .args .e) (now (c .before .before .before .before .before .before .before .before .before .before .args .s)) _ _ _ (ap moved (sym (c .before .before .before .before .before .from .given .1)) ∙ c .before .before .before .before .before .before .before .mark .ensures) _ (ap moved (sym (c .before .f2 .given .1)) ∙ c .before .before .before .sizes-past .ensures)
+
+returns-3 : tie.Need-returns-3
+returns-3 c = sizes-padding-stops (c .before .before .before .before .before .before .before .before .before .before .before .before .before .before .before .before .before .args .e) (now (c .before .before .before .before .before .before .before .before .before .before .before .before .before .before .before .before .before .args .s)) _ _ _ (ap moved (sym (c .before .before .before .before .before .before .before .before .before .before .before .before .from .given .1)) ∙ c .before .before .before .before .before .before .before .before .before .before .before .before .before .before .mark .ensures) _ (ap moved (sym (c .before .before .before .before .before .before .before .before .end .given .1)) ∙ c .before .before .before .before .before .before .before .before .before .before .sizes-past .ensures) _ (c .before .before .before .before .padding .ensures) _ (ap moved (sym (c .before .f3 .given .1)) ∙ c .before .before .before .skip .ensures)
+
+returns-4 : tie.Need-returns-4
+returns-4 c = (sizes-read (c .before .before .before .before .before .before .before .before .before .before .before .before .before .before .before .before .before .args .e) (now (c .before .before .before .before .before .before .before .before .before .before .before .before .before .before .before .before .before .args .s)) _ _ _ (ap moved (sym (c .before .before .before .before .before .before .before .before .before .before .before .before .from .given .1)) ∙ c .before .before .before .before .before .before .before .before .before .before .before .before .before .before .mark .ensures) _ (ap moved (sym (c .before .before .before .before .before .before .before .before .end .given .1)) ∙ c .before .before .before .before .before .before .before .before .before .before .sizes-past .ensures) _ (c .before .before .before .before .padding .ensures) _ (ap moved (sym (c .before .next .given .1)) ∙ c .before .before .before .skip .ensures), all-many (size (c .before .before .before .before .before .before .before .before .before .before .before .before .before .before .before .before .before .args .e)) (now (c .before .before .before .before .before .before .before .before .before .before .before .before .before .before .before .before .before .args .s)) _ _ _ (ap moved (sym (c .before .before .before .before .before .before .before .before .end .given .1)) ∙ c .before .before .before .before .before .before .before .before .before .before .sizes-past .ensures))
+
+pub sizes-spec : {M : Type 1} → statement M
+sizes-spec =
+    tie.close
+    (tie.spec
+    slice-aggregate-mark
+    mark-requires
+    enum-known-f
+    enum-known-from
+    sizes-past-requires
+    enum-known-f-2
+    enum-known-end
+    sub-padding
+    padding-requires
+    skip-requires
+    enum-known-f-3
+    enum-known-next
+    returns
+    returns-2
+    returns-3
+    returns-4)
