@@ -7,6 +7,7 @@ use Rattle.primitive.specs.declared.Endianness.the-variants.{Little, Big}
 use Rattle.primitive.specs.declared.Fault.the-variants.{Cut, Mark}
 use Rattle.primitive.specs.Ascii.{ascii}
 use Rattle.primitive.specs.Paper.Paper.{accepts, refuses}
+use Rattle.primitive.specs.Looks.{looks}
 use Rattle.primitive.specs.Reader.{run, then, times}
 use Rattle.primitive.specs.Reader.Outcome.{read, fault}
 use Rattle.dna.specs.Catalogue.{catalogue, listed, strings, sized, struct, structured, padding, rooms, readAs, answerFor, fieldCount, pairs, typeRows, structRows, fieldRows, namesTable, typesTable, structsTable, fieldsTable}
@@ -42,6 +43,11 @@ small =
 catalogued : run (catalogue Little) small 0 ≡ read (record { names = (12, 1) ∷ []; types = (24, 3) ∷ []; sizes = 4 ∷ []; structs = (0, ((0, 0) ∷ [])) ∷ [] }) 52
 unfolding run then times catalogue listed strings sized structured struct small
 catalogued = refl
+
+-- which of its bytes are looked at: not the padding at 14 and at 34
+looked : looks (catalogue Little) small 0 ≡ (0, 4) ∷ (4, 4) ∷ (8, 4) ∷ (12, 2) ∷ (16, 4) ∷ (20, 4) ∷ (24, 4) ∷ (28, 4) ∷ (32, 2) ∷ (36, 4) ∷ (40, 4) ∷ (44, 2) ∷ (46, 2) ∷ (48, 2) ∷ (50, 2) ∷ []
+unfolding run then times catalogue listed strings sized structured struct small
+looked = refl
 
 -- Two names, the second empty: 3 bytes with their zeros, so 1 of padding. No types. Two structs, of 1 and of 2 fields: the first field rows are 0 and 1.
 unfoldable wide : List ℕ

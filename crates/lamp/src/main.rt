@@ -42,25 +42,37 @@ fn answer(r: DnaTables) {
     }
 }
 
+// What the call answers, and what the tables hold afterwards.
+fn read(
+    payload: &[u8],
+    order: Endianness,
+    names: &mut [u64],
+    types: &mut [u64],
+    structs: &mut [u64],
+    fields: &mut [u64],
+) {
+    answer(dna(payload, order, names, types, structs, fields));
+    sum(b" sums ", names);
+    sum(b" ", types);
+    sum(b" ", structs);
+    sum(b" ", fields);
+    text(b"\n");
+}
+
 // With tables that have just the rows they need.
 fn exact(payload: &[u8], order: Endianness) {
     let mut names = [7u64; 9952];
     let mut types = [7u64; 2793];
     let mut structs = [7u64; 2418];
     let mut fields = [7u64; 17420];
-    answer(dna(
+    read(
         payload,
         order,
         &mut names,
         &mut types,
         &mut structs,
         &mut fields,
-    ));
-    sum(b" sums ", &names);
-    sum(b" ", &types);
-    sum(b" ", &structs);
-    sum(b" ", &fields);
-    text(b"\n");
+    );
 }
 
 // With one row too few in the table of structs and in that of fields.
@@ -69,19 +81,14 @@ fn short(payload: &[u8], order: Endianness) {
     let mut types = [7u64; 2793];
     let mut structs = [7u64; 2417];
     let mut fields = [7u64; 17419];
-    answer(dna(
+    read(
         payload,
         order,
         &mut names,
         &mut types,
         &mut structs,
         &mut fields,
-    ));
-    sum(b" sums ", &names);
-    sum(b" ", &types);
-    sum(b" ", &structs);
-    sum(b" ", &fields);
-    text(b"\n");
+    );
 }
 
 fn counts(payload: &[u8], order: Endianness) {
