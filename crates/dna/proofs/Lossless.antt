@@ -1,7 +1,7 @@
 -- The papers of the answers lose nothing: two answers that are told alike are the same answer.
 use Prim.Native.Nat.{ℕ}
 use mathlib.Core.List.{List}
-use mathlib.Core.Path.{_≡_, refl, sym, _∙_, ap}
+use mathlib.Core.Path.{_≡_, sym, _∙_, ap}
 use native.Mathlib.Omega.{arith}
 use Rattle.primitive.specs.Paper.Paper.{refuses}
 use Rattle.dna.specs.declared.field.Declarator as records
@@ -130,7 +130,7 @@ countedPaper : (o : Outcome Dna) (r : DnaCounted) → outcomeOf r ≡ countsOnly
 countedPaper (read d m) (DnaCounted.Are x n) h = cc
 countedPaper (read d m) (DnaCounted.Stopped g) h = cc
 countedPaper (fault f) (DnaCounted.Are x n) h = cc
-countedPaper (fault f) (DnaCounted.Stopped g) h = refl
+countedPaper (fault f) (DnaCounted.Stopped g) h = cc
 
 pub countedBoth : (o : Outcome Dna) (r : DnaCounted) → outcomeOf r ≡ countsOnly o → (paperCounted r ≡ countedAs o) × (outcomeOf r ≡ countsOnly o)
 countedBoth o r h = (countedPaper o r h, h)

@@ -14,7 +14,7 @@ use Rattle.primitive.specs.Paper.Paper.{accepts}
 use Rattle.primitive.specs.Reader.{Reader, Outcome, then, times}
 use Rattle.primitive.specs.Reader.Reader.{done, here, skip, string}
 use Rattle.primitive.specs.Reader.Outcome.{read, fault}
-use Rattle.primitive.specs.Refusals.{malformed, catalogueTableTooShort}
+use Rattle.primitive.specs.Refusals.{malformed, catalogueTableTooShort, paperFault}
 use Rattle.primitive.specs.Tables.{written}
 use Rattle.dna.specs.declared.dna.DnaCounts.{DnaCounts}
 use Rattle.dna.specs.declared.dna.DnaCounted.{DnaCounted}
@@ -186,11 +186,11 @@ abbrev pub outcomeOf : DnaCounted → Outcome DnaCounts
 outcomeOf (DnaCounted.Are n next) = read n next
 outcomeOf (DnaCounted.Stopped f) = fault f
 
--- on paper: the four counts and the place, or 2
+-- on paper: the four counts and the place, or the fault's refusal, which is 2 for a missing byte and for a mark
 abbrev pub countedAs : Outcome Dna → Paper
 countedAs (read d next) = accepts 0 (length (d .names) ∷ length (d .types) ∷ length (d .structs) ∷ fieldCount (d .structs) ∷ next ∷ [])
-countedAs (fault f) = malformed
+countedAs (fault f) = paperFault f
 
 abbrev pub paperCounted : DnaCounted → Paper
 paperCounted (DnaCounted.Are n next) = accepts 0 (n .names ∷ n .types ∷ n .structs ∷ n .fields ∷ next ∷ [])
-paperCounted (DnaCounted.Stopped f) = malformed
+paperCounted (DnaCounted.Stopped f) = paperFault f
