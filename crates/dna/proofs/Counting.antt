@@ -1,23 +1,21 @@
 -- The pass that counts: one turn of each of its loops, and how the sections of the tree go together.
 use Prim.Native.Nat.{ℕ, zero, suc, _+_, _*_, _-_, _%_, _<_, _≤_}
-use mathlib.Core.Bool.{Bool, true, false}
 use mathlib.Core.List.{List, []}
 use mathlib.Core.Path.{_≡_, refl, sym, _∙_, ap}
 use native.Mathlib.Nat.{mul-suc}
 use native.Mathlib.Omega.{arith}
-use lib.ListN.{length, take, drop}
+use lib.ListN.{length}
 use Rattle.primitive.specs.declared.Endianness.{Endianness}
 use Rattle.primitive.specs.declared.Fault.{Fault}
-use Rattle.primitive.specs.declared.Fault.the-variants.{Cut}
 use Rattle.primitive.specs.Ascii.{ascii}
 use Rattle.primitive.specs.Helpers.{past, leading}
-use Rattle.primitive.specs.Number.{number, spelled, tag}
-use Rattle.primitive.specs.Reader.{Reader, Outcome, run, then, room, times}
+use Rattle.primitive.specs.Number.{number, tag}
+use Rattle.primitive.specs.Reader.{Reader, Outcome, run, then, times}
 use Rattle.primitive.specs.Reader.Reader.{done, skip, string}
 use Rattle.primitive.specs.Reader.Outcome.{read, fault}
 use Rattle.primitive.proofs.Extent.{ends-after, ends-within}
 use Rattle.primitive.proofs.Times.{joined, one-more, none-yet, found-list, past-none, past-more, times-stops, past-read, past-fault, goes-on, stops}
-use Rattle.primitive.proofs.Onward.{string-on, string-stops, skip-on, skip-stops, number-on, number-stops, tag-on, tag-stops}
+use Rattle.primitive.proofs.Onward.{string-on, string-stops, skip-on, skip-stops, number-on, number-stops, number-moves, tag-on, tag-stops}
 use Rattle.dna.specs.Catalogue.{Struct, place, padding, strings, listed, size, sized, field, struct, structured, fieldCount}
 use Rattle.dna.specs.Passes.{headed, totalled}
 
@@ -125,15 +123,6 @@ module _ {A : Type 0} (r : Reader A) (s : List ℕ) (w : ℕ) (fixed : (at : ℕ
       go (fault x) t f =
           let k : _≡_ {A = Outcome (Unit {0})} (read tt end) (fault x) = h ∙ ap past (times-stops r s n at x t) in
           cc
-
--- a number takes its bytes, and so does what is made of numbers
-number-moves : (e : Endianness) (s : List ℕ) (w at n next : ℕ) → run (number e w done) s at ≡ read n next → next ≡ at + w
-unfolding run
-number-moves e s w at n next h = go (room s at w) h
-  where
-    go : (b : Bool) → (elim b as (λ (c : Bool). Outcome ℕ) [ true ↦ read (spelled e (take w (drop at s))) (at + w) | false ↦ fault (Cut at) ]) ≡ read n next → next ≡ at + w
-    go true k = cc
-    go false k = cc
 
 module _ (e : Endianness) (s : List ℕ) (m at : ℕ) where
   pub no-tlen : (x : Fault) → _≡_ {A = Outcome (Unit {0})} (fault x) (run (tag (ascii "TLEN") (done tt)) s at) → run (sized e m) s at ≡ fault x

@@ -1,11 +1,13 @@
 -- How far a tree comes: a find ends no earlier than it began (`grows`, in Unaltered.antt), and no later than the bytes, unless it read nothing.
 use Prim.Native.Nat.{ℕ, _+_, _-_, _≤_, _<_, max}
-use mathlib.Core.Bool.{true}
+use mathlib.Core.Bool.{Bool, true, false}
 use mathlib.Core.List.{List}
-use mathlib.Core.Path.{_≡_, subst}
+use mathlib.Core.Path.{_≡_, refl, subst}
 use native.Mathlib.Omega.{arith}
 use borrow.Author.Tests.{leb-true, ltb-true}
 use lib.ListN.{length, take, drop}
+use Rattle.primitive.specs.declared.Fault.{Fault}
+use Rattle.primitive.specs.Helpers.{Placed}
 use Rattle.primitive.specs.Reader.{Reader, Outcome, run, room, zeroEnded, stands, toZero}
 use Rattle.primitive.specs.Reader.Reader.{done, refuse, stray, here, bytes, skip, string, begins}
 use Rattle.primitive.specs.Reader.Outcome.{read, fault}
@@ -53,3 +55,33 @@ module _ {A : Type 0} (r : Reader A) (s : List ℕ) (at : ℕ) (a : A) (next : �
   ends-within =
       let f : next ≤ max at (length s) = subst (λ (o : Outcome A). Finds o (Ends s at)) h (within r s at) in
       omega arith
+
+-- A fault's place is not after the bytes, unless reading began there.
+abbrev Stops : {A : Type 0} → ℕ → Outcome A → Type 0
+Stops n (read a next) = Unit {0}
+Stops n (fault x) = Placed n x
+
+by-way : {A : Type 0} (n : ℕ) (b : Bool) (o p : Outcome A) → (b ≡ true → Stops n o) → (b ≡ false → Stops n p) → Stops {A = A} n (elim b as (λ (c : Bool). Outcome A) [ true ↦ o | false ↦ p ])
+by-way n true o p f g = f refl
+by-way n false o p f g = g refl
+
+stop-within : {A : Type 0} (r : Reader A) (s : List ℕ) (at n : ℕ) → at ≤ n → length s ≤ n → Stops n (run r s at)
+unfolding run
+stop-within (done a) s at n h l = tt
+stop-within (refuse k) s at n h l = tt
+stop-within (stray k) s at n h l = omega arith
+stop-within (here k) s at n h l = stop-within (k at) s at n h l
+stop-within (bytes m k) s at n h l =
+    by-way n (room s at m) (run (k (take m (drop at s))) s (at + m)) _ (λ e. let g : at + m ≤ length s = leb-true _ _ e in stop-within (k (take m (drop at s))) s (at + m) n (omega arith) l) (λ e. h)
+stop-within (skip m r) s at n h l =
+    by-way n (room s at m) (run r s (at + m)) _ (λ e. let g : at + m ≤ length s = leb-true _ _ e in stop-within r s (at + m) n (omega arith) l) (λ e. h)
+stop-within (string k) s at n h l =
+    let z = toZero (drop at s) in
+    by-way n (zeroEnded s at) (run (k z) s (at + (z + 1))) _
+    (λ e. let g : at + toZero (drop at s) < length s = ltb-true _ _ e in stop-within (k z) s (at + (z + 1)) n (omega arith) l) (λ e. h)
+stop-within (begins m on′ off) s at n h l =
+    by-way n (stands s at m) (run on′ s (at + length m)) (run off s at)
+    (λ e. let g : length m ≤ length s - at = stands-room s at m e in stop-within on′ s (at + length m) n (omega arith) l) (λ e. stop-within off s at n h l)
+
+pub stops-within : {A : Type 0} (r : Reader A) (s : List ℕ) (x : Fault) → run r s 0 ≡ fault x → Placed (length s) x
+stops-within {A} r s x h = subst (λ (o : Outcome A). Stops (length s) o) h (stop-within r s 0 (length s) (omega arith) (omega arith))

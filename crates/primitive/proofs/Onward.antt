@@ -4,14 +4,17 @@ use mathlib.Core.Bool.{Bool, true, false}
 use mathlib.Core.List.{List}
 use mathlib.Core.Path.{_≡_, refl, sym, _∙_, ap}
 use native.Mathlib.Omega.{arith}
-use lib.ListN.{length}
+use lib.ListN.{length, take, drop}
 use Rattle.primitive.specs.declared.Endianness.{Endianness}
 use Rattle.primitive.specs.declared.Fault.{Fault}
 use Rattle.primitive.specs.declared.Fault.the-variants.{Cut, Mark}
-use Rattle.primitive.specs.Number.{number, tag}
+use Rattle.primitive.specs.declared.cursor.Begun.{Begun}
+use Rattle.primitive.specs.Cursor.{begun, partOf}
+use Rattle.primitive.specs.Number.{spelled, number, tag}
 use Rattle.primitive.specs.Reader.{Reader, Outcome, run, then, same, room, stands}
-use Rattle.primitive.specs.Reader.Reader.{done, skip, string, stray}
+use Rattle.primitive.specs.Reader.Reader.{done, bytes, skip, string, begins, stray}
 use Rattle.primitive.specs.Reader.Outcome.{read, fault}
+use Rattle.primitive.proofs.Reading.{onwards}
 use Rattle.primitive.proofs.Tests.{held, failed}
 use Rattle.primitive.proofs.Times.{goes-on, stops}
 
@@ -80,3 +83,69 @@ module _ {A : Type 0} (s : List ℕ) (at : ℕ) (m : List ℕ) (r : Reader A) wh
       go true true e = cc
       go true false e = cc
       go false c e = cc
+
+  -- the same with a value that goes on
+  pub tag-then : {B : Type 0} (f : B → Reader A) (b : B) → f b ≡ r → run (tag m r) s at ≡ onwards (run (tag m (done b)) s at) (λ c next. run (f c) s next)
+  unfolding run tagged-by
+  tag-then {B} f b e = ap (λ (q : Reader A). run (tag m q) s at) (sym e) ∙ tag-is m (f b) s at ∙ go (room s at (length m)) (stands s at m)
+      ∙ ap (λ (o : Outcome B). onwards o (λ c next. run (f c) s next)) (sym (tag-is m (done b) s at))
+    where
+      go : (x y : Bool) → tagged-by x y (run (f b) s (at + length m)) at ≡ onwards (tagged-by x y (read b (at + length m)) at) (λ c next. run (f c) s next)
+      go true true = refl
+      go true false = refl
+      go false y = refl
+
+-- bytes that are read, and a mark that may be there
+module _ {A : Type 0} (s : List ℕ) (at : ℕ) where
+  module _ (n : ℕ) (k : List ℕ → Reader A) where
+    pub bytes-on : (next : ℕ) → _≡_ {A = Outcome (Unit {0})} (read tt next) (run (bytes n (λ b. done tt)) s at)
+        → (run (bytes n k) s at ≡ run (k (take n (drop at s))) s next) × (partOf s at n ≡ take n (drop at s))
+    unfolding run partOf
+    bytes-on next h = go (room s at n) refl h
+      where
+        go : (t : Bool) → room s at n ≡ t
+            → _≡_ {A = Outcome (Unit {0})} (read tt next) (elim t as (λ (c : Bool). Outcome (Unit {0})) [ true ↦ read tt (at + n) | false ↦ fault (Cut at) ])
+            → (run (bytes n k) s at ≡ run (k (take n (drop at s))) s next) × (partOf s at n ≡ take n (drop at s))
+        go true e g =
+            let q : next ≡ at + n = cc in
+            (held _ _ e ∙ rw q refl, held _ _ e)
+        go false e g = (cc, cc)
+
+    pub bytes-stops : (x : Fault) → _≡_ {A = Outcome (Unit {0})} (fault x) (run (bytes n (λ b. done tt)) s at) → run (bytes n k) s at ≡ fault x
+    unfolding run
+    bytes-stops x h = go (room s at n) refl h
+      where
+        go : (t : Bool) → room s at n ≡ t
+            → _≡_ {A = Outcome (Unit {0})} (fault x) (elim t as (λ (c : Bool). Outcome (Unit {0})) [ true ↦ read tt (at + n) | false ↦ fault (Cut at) ]) → run (bytes n k) s at ≡ fault x
+        go true e g = cc
+        go false e g = failed _ _ e ∙ cc
+
+  module _ (m : List ℕ) (on off : Reader A) (b : Begun) (h : begun b ≡ run (begins m (done true) (done false)) s at) where
+    pub begins-there : b .there ≡ true → run (begins m on off) s at ≡ run on s (b .next .at)
+    unfolding run
+    begins-there t = go (stands s at m) refl h
+      where
+        go : (u : Bool) → stands s at m ≡ u → begun b ≡ (elim u as (λ (c : Bool). Outcome Bool) [ true ↦ read true (at + length m) | false ↦ read false at ])
+            → run (begins m on off) s at ≡ run on s (b .next .at)
+        go true e g =
+            let q : b .next .at ≡ at + length m = cc in
+            held _ _ e ∙ rw q refl
+        go false e g = cc
+
+    pub begins-not : b .there ≡ false → run (begins m on off) s at ≡ run off s at
+    unfolding run
+    begins-not t = go (stands s at m) refl h
+      where
+        go : (u : Bool) → stands s at m ≡ u → begun b ≡ (elim u as (λ (c : Bool). Outcome Bool) [ true ↦ read true (at + length m) | false ↦ read false at ])
+            → run (begins m on off) s at ≡ run off s at
+        go true e g = cc
+        go false e g = failed _ _ e
+
+-- a number takes its bytes
+pub number-moves : (e : Endianness) (s : List ℕ) (w at n next : ℕ) → run (number e w done) s at ≡ read n next → next ≡ at + w
+unfolding run
+number-moves e s w at n next h = go (room s at w) h
+  where
+    go : (b : Bool) → (elim b as (λ (c : Bool). Outcome ℕ) [ true ↦ read (spelled e (take w (drop at s))) (at + w) | false ↦ fault (Cut at) ]) ≡ read n next → next ≡ at + w
+    go true k = cc
+    go false k = cc

@@ -1,0 +1,222 @@
+-- Laws of the chain: each block moves on, enough boundaries are always left, and the rows are those that the second pass goes over again.
+use Prim.Native.Nat.{ℕ, zero, suc, _+_, _*_, _-_, _≤_, _<_}
+use mathlib.Core.Bool.{Bool, true, false}
+use mathlib.Core.List.{List, [], _∷_, _++_}
+use mathlib.Core.Path.{_≡_, refl, sym, _∙_, ap}
+use native.Mathlib.Nat.{mul-suc}
+use native.Mathlib.Omega.{arith}
+use lib.ListN.{length}
+use Rattle.primitive.specs.declared.Fault.{Fault}
+use Rattle.primitive.specs.declared.Fault.the-variants.{Cut}
+use Rattle.primitive.specs.declared.PointerSize.{PointerSize}
+use Rattle.primitive.specs.declared.PointerSize.the-variants.{Bits32, Bits64}
+use Rattle.primitive.specs.Ascii.{ascii}
+use Rattle.primitive.specs.Helpers.{goOn}
+use Rattle.primitive.specs.Number.{number}
+use Rattle.primitive.specs.Reader.{Outcome, run, stands}
+use Rattle.primitive.specs.Reader.Outcome.{read, fault}
+use Rattle.primitive.proofs.Marks.{stands-cut, stands-room}
+use Rattle.primitive.proofs.Reading.{bytes-out}
+use Rattle.primitive.proofs.Tests.{held, failed}
+use Rattle.dna.specs.Catalogue.{Dna, catalogue}
+use Rattle.blend.specs.declared.FileFormat.{FileFormat}
+use Rattle.blend.specs.declared.FileFormat.the-variants.{Legacy, New}
+use Rattle.blend.specs.declared.Header.{Header}
+use Rattle.blend.specs.declared.Row.{Row}
+use Rattle.blend.specs.declared.blend.Last.{Last}
+use Rattle.blend.specs.declared.blend.Boundary.{Boundary}
+use Rattle.blend.specs.declared.blend.Chained.{Chained}
+use Rattle.blend.specs.Blocks.{blockHeaderLength, kindOf, isDna, rowAt, payloadOf, catalogued, finished, finish, boundaryOf}
+use Rattle.blend.specs.Chain.{Chain, ended, link, chain, chainFrom, rowNumbers, rowTable}
+use Rattle.blend.specs.Helpers.{summed, summedAs, rowsFrom}
+use Rattle.blend.proofs.Layouts.{block-header-stops}
+use Rattle.blend.proofs.Rows.{Lies, row-lies, row-no-header, boundary-stops}
+
+-- a block at a boundary has its row
+module _ (h : Header) (s : List ℕ) (at : ℕ) (r : Row) (l : Last) (next : ℕ) where
+  catalogued-row : (q : Row) (n : ℕ) (o : Outcome Dna) → catalogued q n o ≡ Boundary.Block r l next → (q ≡ r) × (n ≡ next)
+  catalogued-row q n (read d end) e = (cc, cc)
+  catalogued-row q n (fault x) e = (cc, cc)
+
+  finished-row : (q : Row) (n : ℕ) → finished h s q n ≡ Boundary.Block r l next → (q ≡ r) × (n ≡ next)
+  unfolding finished
+  finished-row q n e = go (isDna (kindOf (q .code))) refl
+    where
+      go : (t : Bool) → isDna (kindOf (q .code)) ≡ t → (q ≡ r) × (n ≡ next)
+      go true u = catalogued-row q n (run (catalogue (h .endianness)) (payloadOf s q) 0) (sym (held _ _ u) ∙ e)
+      go false u =
+          let g : Boundary.Block q Last.Other n ≡ Boundary.Block r l next = sym (failed _ _ u) ∙ e in
+          (cc, cc)
+
+  pub block-row : boundaryOf h s at ≡ Boundary.Block r l next → rowAt h s at ≡ read r next
+  unfolding boundaryOf
+  block-row e = go (stands s at (ascii "ENDB")) refl
+    where
+      by : (o : Outcome Row) → rowAt h s at ≡ o → finish h s o ≡ Boundary.Block r l next → o ≡ read r next
+      by (read q n) u g =
+          let w = finished-row q n g in
+          rw (w .0, w .1) refl
+      by (fault x) u g = cc
+
+      go : (t : Bool) → stands s at (ascii "ENDB") ≡ t → rowAt h s at ≡ read r next
+      go true u =
+          let g : Boundary.EndMark ≡ Boundary.Block r l next = sym (held _ _ u) ∙ e in
+          cc
+      go false u = by (rowAt h s at) refl (sym (failed _ _ u) ∙ e)
+
+  pub block-lies : boundaryOf h s at ≡ Boundary.Block r l next → Lies h s at r next
+  block-lies e = row-lies h s at r next (block-row e)
+
+pub header-long : (f : FileFormat) (p : PointerSize) → 20 ≤ blockHeaderLength f p
+header-long Legacy Bits32 = omega arith
+header-long Legacy Bits64 = omega arith
+header-long New Bits32 = omega arith
+header-long New Bits64 = omega arith
+
+-- the next boundary is further on, and in the file
+pub block-moves : (h : Header) (s : List ℕ) (at : ℕ) (r : Row) (l : Last) (next : ℕ) → boundaryOf h s at ≡ Boundary.Block r l next → (at + 20 ≤ next) × (next ≤ length s)
+block-moves h s at r l next e =
+    let w = block-lies h s at r l next e in
+    (omega (arith, w .header, w .payload, header-long (h .format) (h .«pointer_size»)), w .inside)
+
+-- nothing is read at the end of the file
+pub end-stops : (h : Header) (s : List ℕ) (at : ℕ) → length s ≤ at → boundaryOf h s at ≡ Boundary.Stopped (Cut at)
+end-stops h s at e =
+    let k : length s < at + 4 = omega arith in
+    sym (boundary-stops h s at (sym (stands-cut s at (ascii "ENDB") (λ z. absurd (omega arith)) k)) (Cut at)
+    (row-no-header h s at (Cut at) (block-header-stops h s at (Cut at) (sym (bytes-out 4 _ s at k)))))
+
+-- Fuel: where more boundaries are left than bytes, one more can be taken off, and any number that is enough gives the same.
+module _ (h : Header) (s : List ℕ) where
+  pub one-less : (n at : ℕ) → length s < at + n → at ≤ length s → (k : ℕ) × (n ≡ suc k)
+  one-less zero at e g = absurd (omega arith)
+  one-less (suc k) at e g = (k, refl)
+
+  pub enough : (n m at : ℕ) (last : Last) → length s < at + n → length s < at + m → at ≤ length s → chain n h s at last ≡ chain m h s at last
+  unfolding chain
+  enough zero m at last e g i = absurd (omega arith)
+  enough (suc n) zero at last e g i = absurd (omega arith)
+  enough (suc n) (suc m) at last e g i = go (boundaryOf h s at) refl (λ next l. enough n m next l)
+    where
+      go : (b : Boundary) → boundaryOf h s at ≡ b
+          → ((next : ℕ) (l : Last) → length s < next + n → length s < next + m → next ≤ length s → chain n h s next l ≡ chain m h s next l)
+          → link b last at (chain n h s) ≡ link b last at (chain m h s)
+      go Boundary.EndMark t f = refl
+      go (Boundary.Stopped x) t f = refl
+      go (Boundary.Block r l next) t f =
+          let w = block-moves h s at r l next t in
+          ap (λ (c : Chain). record { rows = r ∷ c .rows; last = c .last }) (f next l (omega (arith, w .0)) (omega (arith, w .0)) (w .1))
+
+-- The first pass: what it has counted and what is left.
+pub record Counting (h : Header) (s : List ℕ) (from at rows : ℕ) (last : Last) : Type 0 where
+  pub fuel : ℕ
+  pub enough : length s < at + fuel
+  pub inside : at ≤ length s
+  pub few : rows ≤ at
+  pub same : summed 0 (chainFrom h s from) ≡ summed rows (chain fuel h s at last)
+
+module _ (h : Header) (s : List ℕ) (from : ℕ) where
+  pub counting-starts : from ≤ length s → Counting h s from from 0 Last.Other
+  unfolding chainFrom
+  counting-starts e = record { fuel = suc (length s); enough = omega arith; inside = e; few = omega arith; same = refl }
+
+  module _ (at rows : ℕ) (last : Last) (c : Counting h s from at rows last) where
+    linked : (k : ℕ) × (summed 0 (chainFrom h s from) ≡ summed rows (link (boundaryOf h s at) last at (chain k h s))) × (length s < at + suc k)
+    unfolding chain
+    linked =
+        let w = one-less h s (c .fuel) at (c .enough) (c .inside) in
+        (w .0, c .same ∙ ap (λ (n : ℕ). summed rows (chain n h s at last)) (w .1), rw (w .1) at (c .enough))
+
+    linked-by : (b : Boundary) → boundaryOf h s at ≡ b → summed 0 (chainFrom h s from) ≡ summed rows (link b last at (chain (linked .0) h s))
+    linked-by b e = linked .1 ∙ ap (λ (d : Boundary). summed rows (link d last at (chain (linked .0) h s))) e
+
+    pub counting-ends : boundaryOf h s at ≡ Boundary.EndMark → summedAs rows (ended last (at + 4)) ≡ summed 0 (chainFrom h s from)
+    counting-ends e =
+        let z : rows + 0 ≡ rows = omega arith in
+        sym (linked-by Boundary.EndMark e ∙ ap (λ (n : ℕ). summedAs n (ended last (at + 4))) z)
+
+    pub counting-stops : (x : Fault) → boundaryOf h s at ≡ Boundary.Stopped x → Chained.Stopped x ≡ summed 0 (chainFrom h s from)
+    counting-stops x e = sym (linked-by (Boundary.Stopped x) e)
+
+    pub counting-more : (r : Row) (l : Last) (next : ℕ) → boundaryOf h s at ≡ Boundary.Block r l next → Counting h s from next (rows + 1) l
+    counting-more r l next e =
+        let w = block-moves h s at r l next e in
+        let k = linked .0 in
+        let z : rows + suc (length (chain k h s next l .rows)) ≡ rows + 1 + length (chain k h s next l .rows) = omega arith in
+        record {
+          fuel = k;
+          enough = omega (arith, linked .2, w .0);
+          inside = w .1;
+          few = omega (arith, w .0, c .few);
+          same = linked-by (Boundary.Block r l next) e ∙ ap (λ (n : ℕ). summedAs n (chain k h s next l .last)) z;
+        }
+
+-- The second pass: the rows of the chain, read again without its end marks and catalogues.
+pub rows-again : (n : ℕ) (h : Header) (s : List ℕ) (at : ℕ) (last : Last) → rowsFrom (length (chain n h s at last .rows)) h s at ≡ chain n h s at last .rows
+unfolding chain rowsFrom
+rows-again zero h s at last = refl
+rows-again (suc n) h s at last = go (boundaryOf h s at) refl (λ next l. rows-again n h s next l)
+  where
+    go : (b : Boundary) → boundaryOf h s at ≡ b → ((next : ℕ) (l : Last) → rowsFrom (length (chain n h s next l .rows)) h s next ≡ chain n h s next l .rows)
+        → rowsFrom (length (link b last at (chain n h s) .rows)) h s at ≡ link b last at (chain n h s) .rows
+    go Boundary.EndMark t f = refl
+    go (Boundary.Stopped x) t f = refl
+    go (Boundary.Block r l next) t f =
+        ap (λ (o : Outcome Row). goOn o (rowsFrom (length (chain n h s next l .rows)) h s)) (block-row h s at r l next t) ∙ ap (λ (q : List Row). r ∷ q) (f next l)
+
+pub table-length : (rs : List Row) → length (rowTable rs) ≡ 7 * length rs
+unfolding rowTable
+table-length [] = refl
+table-length (r ∷ rs) = omega (arith, table-length rs, mul-suc 7 (length rs))
+
+-- an end mark is in the file
+pub mark-room : (h : Header) (s : List ℕ) (at : ℕ) → boundaryOf h s at ≡ Boundary.EndMark → at + 4 ≤ length s
+unfolding boundaryOf finished
+mark-room h s at e = go (stands s at (ascii "ENDB")) refl
+  where
+    by : (o : Outcome Row) → finish h s o ≡ Boundary.EndMark → at + 4 ≤ length s
+    by (read r n) g = no (isDna (kindOf (r .code))) refl
+      where
+        some : (o : Outcome Dna) → catalogued r n o ≡ Boundary.EndMark → at + 4 ≤ length s
+        some (read d end) w =
+            let z : _≡_ {A = ℕ} 0 1 = cc in
+            absurd (omega arith)
+        some (fault x) w =
+            let z : _≡_ {A = ℕ} 0 1 = cc in
+            absurd (omega arith)
+
+        no : (t : Bool) → isDna (kindOf (r .code)) ≡ t → at + 4 ≤ length s
+        no true u = some (run (catalogue (h .endianness)) (payloadOf s r) 0) (sym (held _ _ u) ∙ g)
+        no false u =
+            let w : Boundary.Block r Last.Other n ≡ Boundary.EndMark = sym (failed _ _ u) ∙ g in
+            let z : _≡_ {A = ℕ} 0 1 = cc in
+            absurd (omega arith)
+    by (fault x) g =
+        let z : _≡_ {A = ℕ} 0 1 = cc in
+        absurd (omega arith)
+
+    go : (t : Bool) → stands s at (ascii "ENDB") ≡ t → at + 4 ≤ length s
+    go true u = omega (arith, stands-room s at (ascii "ENDB") u)
+    go false u = by (rowAt h s at) (sym (failed _ _ u) ∙ e)
+
+-- the table's numbers, one row more
+module _ (h : Header) (s : List ℕ) (left at : ℕ) where
+  pub rows-more : 0 < left → (r : Row) (next : ℕ) → rowAt h s at ≡ read r next → rowTable (rowsFrom left h s at) ≡ rowNumbers r ++ rowTable (rowsFrom (left - 1) h s next)
+  unfolding rowTable rowsFrom
+  rows-more e r next g =
+      let k : left ≡ suc (left - 1) = omega arith in
+      ap (λ (n : ℕ). rowTable (rowsFrom n h s at)) k ∙ ap (λ (o : Outcome Row). rowTable (goOn o (rowsFrom (left - 1) h s))) g
+
+  pub rows-stop : (x : Fault) → rowAt h s at ≡ fault x → rowTable (rowsFrom left h s at) ≡ []
+  unfolding rowTable rowsFrom
+  rows-stop x g = go left
+    where
+      go : (n : ℕ) → rowTable (rowsFrom n h s at) ≡ []
+      go zero = refl
+      go (suc n) = ap (λ (o : Outcome Row). rowTable (goOn o (rowsFrom n h s))) g
+
+  pub rows-none : left ≤ 0 → rowTable (rowsFrom left h s at) ≡ []
+  unfolding rowTable rowsFrom
+  rows-none e =
+      let k : left ≡ 0 = omega arith in
+      ap (λ (n : ℕ). rowTable (rowsFrom n h s at)) k

@@ -1,0 +1,92 @@
+-- The rules at small inputs, computed.
+use Prim.Native.Nat.{ℕ}
+use mathlib.Core.Bool.{true, false}
+use mathlib.Core.List.{List, [], _∷_, _++_}
+use mathlib.Core.Path.{_≡_, refl}
+use lib.ListN.{replicate}
+use Rattle.primitive.specs.declared.Endianness.the-variants.{Big}
+use Rattle.primitive.specs.declared.PointerSize.the-variants.{Bits32}
+use Rattle.primitive.specs.Ascii.{ascii}
+use Rattle.primitive.specs.Paper.Paper.{accepts, refuses}
+use Rattle.primitive.specs.Reader.{run, then, times}
+use Rattle.primitive.specs.Reader.Outcome.{read}
+use Rattle.dna.specs.Catalogue.{catalogue, listed, strings, sized, struct, structured, fieldCount}
+use Rattle.blend.specs.declared.FileFormat.the-variants.{Legacy, New}
+use Rattle.blend.specs.Header.{decimal, legacy, new, headerBytes, valued, headerAs, versionOf}
+use Rattle.blend.specs.Blocks.{fields, blockHeader, kindOf, block, rowAt, finished, boundaryOf}
+use Rattle.blend.specs.Chain.{chain, chainFrom, fileBy, readAs, rowTable, rowsOf}
+use Rattle.blend.specs.Walker.{stepBy, start}
+use Rattle.blend.specs.Views.{viewAs, partAs}
+use Rattle.blend.specs.Addresses.{seek, lookupAs, codeAs}
+
+-- headers: no magic, nothing after it, one of each edition, and a wrong mark; in a New header the unchecked bytes are anything
+headers : (headerAs (valued (run headerBytes (ascii "BLENDE") 0)) ≡ refuses 1 []) × (headerAs (valued (run headerBytes (ascii "BLENDER") 0)) ≡ refuses 2 [])
+    × (headerAs (valued (run headerBytes (ascii "BLENDER-v280") 0)) ≡ accepts 0 (0 ∷ 8 ∷ 0 ∷ 2 ∷ 80 ∷ 12 ∷ []))
+    × (headerAs (valued (run headerBytes (ascii "BLENDER17_01V0501") 0)) ≡ accepts 0 (1 ∷ 4 ∷ 1 ∷ 5 ∷ 1 ∷ 17 ∷ []))
+    × (headerAs (valued (run headerBytes (ascii "BLENDERxx_xxV0501") 0)) ≡ accepts 0 (1 ∷ 4 ∷ 1 ∷ 5 ∷ 1 ∷ 17 ∷ []))
+    × (headerAs (valued (run headerBytes (ascii "BLENDER_x280") 0)) ≡ refuses 2 [])
+unfolding run headerBytes legacy new decimal
+headers = (refl, refl, refl, refl, refl, refl)
+
+versions : (versionOf (ascii "0501") ≡ record { major = 5; minor = 1 }) × (versionOf (ascii "2x0") ≡ record { major = 0; minor = 20 })
+    × (versionOf (ascii "xyz") ≡ record { major = 0; minor = 0 })
+unfolding decimal
+versions = (refl, refl, refl)
+
+-- block headers of two forms: code "DATA", size 0, address 1, index 2, count 3. In the New one only the address is in the file's order.
+blocks :
+    (run (blockHeader (record { «pointer_size» = Bits32; endianness = Big; version = record { major = 0; minor = 0 }; format = Legacy }))
+    (ascii "DATA" ++ (0 ∷ 0 ∷ 0 ∷ 0 ∷ 0 ∷ 0 ∷ 0 ∷ 1 ∷ 0 ∷ 0 ∷ 0 ∷ 2 ∷ 0 ∷ 0 ∷ 0 ∷ 3 ∷ [])) 0
+    ≡ read (record { code = 1145132097; size = 0; address = 1; index = 2; count = 3 }) 20)
+    × (run (blockHeader (record { «pointer_size» = Bits32; endianness = Big; version = record { major = 0; minor = 0 }; format = New }))
+    (ascii "DATA" ++ (2 ∷ 0 ∷ 0 ∷ 0 ∷ 0 ∷ 0 ∷ 0 ∷ 1 ∷ []) ++ replicate 8 0 ++ (3 ∷ []) ++ replicate 7 0) 0
+    ≡ read (record { code = 1145132097; size = 0; address = 1; index = 2; count = 3 }) 28)
+unfolding run blockHeader fields
+blocks = (refl, refl)
+
+-- Document 01's example: a Principal "OB" with the payload "hull", and a DNA1 with a catalogue of 52 bytes.
+unfoldable hull : List ℕ
+hull =
+    ascii "BLENDER-v280" ++ ascii "OB" ++ (0 ∷ 0 ∷ 4 ∷ 0 ∷ 0 ∷ 0 ∷ 16 ∷ 0 ∷ 0 ∷ 0 ∷ 0 ∷ 0 ∷ 0 ∷ 0 ∷ 3 ∷ 0 ∷ 0 ∷ 0 ∷ 1 ∷ 0 ∷ 0 ∷ 0 ∷ []) ++ ascii "hull"
+    ++ ascii "DNA1" ++ (52 ∷ 0 ∷ 0 ∷ 0 ∷ 32 ∷ 0 ∷ 0 ∷ 0 ∷ 0 ∷ 0 ∷ 0 ∷ 0 ∷ 0 ∷ 0 ∷ 0 ∷ 0 ∷ 1 ∷ 0 ∷ 0 ∷ 0 ∷ [])
+    ++ ascii "SDNANAME" ++ (1 ∷ 0 ∷ 0 ∷ 0 ∷ 120 ∷ 0 ∷ 0 ∷ 0 ∷ []) ++ ascii "TYPE" ++ (1 ∷ 0 ∷ 0 ∷ 0 ∷ []) ++ ascii "int" ++ (0 ∷ [])
+    ++ ascii "TLEN" ++ (4 ∷ 0 ∷ 0 ∷ 0 ∷ []) ++ ascii "STRC" ++ (1 ∷ 0 ∷ 0 ∷ 0 ∷ 0 ∷ 0 ∷ 1 ∷ 0 ∷ 0 ∷ 0 ∷ 0 ∷ 0 ∷ [])
+    ++ ascii "ENDB"
+
+-- the answer with enough rows and with too few, and the rows' numbers
+read-whole : (readAs (fileBy headerBytes hull) 2 ≡ accepts 0 (0 ∷ 8 ∷ 0 ∷ 2 ∷ 80 ∷ 2 ∷ 120 ∷ 1 ∷ 1 ∷ 1 ∷ 1 ∷ [])) × (readAs (fileBy headerBytes hull) 1 ≡ refuses 7 (2 ∷ []))
+    × (rowTable (rowsOf (fileBy headerBytes hull)) ≡ 1329725440 ∷ 16 ∷ 3 ∷ 1 ∷ 12 ∷ 36 ∷ 4 ∷ 1145979185 ∷ 32 ∷ 0 ∷ 1 ∷ 40 ∷ 64 ∷ 52 ∷ [])
+unfolding run then times headerBytes legacy new decimal chainFrom chain boundaryOf rowAt block blockHeader fields kindOf finished catalogue listed strings sized structured struct fieldCount readAs rowTable hull
+read-whole = (refl, refl, refl)
+
+-- A Legacy file with 32-bit pointers, one block of no payload with this code, address and count, and an end mark.
+abbrev single : List ℕ → ℕ → ℕ → List ℕ
+single code address count = ascii "BLENDER_v280" ++ code ++ (0 ∷ 0 ∷ 0 ∷ 0 ∷ address ∷ 0 ∷ 0 ∷ 0 ∷ 0 ∷ 0 ∷ 0 ∷ 0 ∷ count ∷ 0 ∷ 0 ∷ 0 ∷ []) ++ ascii "ENDB"
+
+-- a code of four zeros with count 1 and with count 2; an address of 0; no block code; no blocks
+refusals : (readAs (fileBy headerBytes (single (0 ∷ 0 ∷ 0 ∷ 0 ∷ []) 1 1)) 9 ≡ refuses 6 []) × (readAs (fileBy headerBytes (single (0 ∷ 0 ∷ 0 ∷ 0 ∷ []) 1 2)) 9 ≡ refuses 4 [])
+    × (readAs (fileBy headerBytes (single (ascii "REND") 0 1)) 9 ≡ refuses 3 []) × (readAs (fileBy headerBytes (single (ascii "USER") 1 1)) 9 ≡ refuses 5 [])
+    × (readAs (fileBy headerBytes (ascii "BLENDER-v280")) 9 ≡ refuses 2 []) × (readAs (fileBy headerBytes (ascii "BLENDER-v280ENDB")) 9 ≡ refuses 6 [])
+unfolding run then times headerBytes legacy new decimal chainFrom chain boundaryOf rowAt block blockHeader fields kindOf finished catalogue listed strings sized structured struct fieldCount readAs
+refusals = (refl, refl, refl, refl, refl, refl)
+
+-- The walker: the first block, and the end from the place after the last; a place past the end; the view of the first row and of none.
+steps : (stepBy headerBytes hull start .answer ≡ accepts 0 (1329725440 ∷ 16 ∷ 3 ∷ 1 ∷ 12 ∷ 36 ∷ 4 ∷ [])) × (stepBy headerBytes hull start .place ≡ record { at = 40; dna = false })
+    × (stepBy headerBytes hull (record { at = 116; dna = true }) .answer ≡ accepts 1 (120 ∷ [])) × (stepBy headerBytes hull (record { at = 121; dna = true }) .answer ≡ refuses 13 [])
+unfolding run then times headerBytes legacy new decimal boundaryOf rowAt block blockHeader fields kindOf finished catalogue listed strings sized structured struct fieldCount stepBy hull
+steps = (refl, refl, refl, refl)
+
+-- Three rows: a GLOB, an OB and a DATA, all with the address 5.
+abbrev table : List ℕ
+table = (1196183362 ∷ 5 ∷ 0 ∷ 1 ∷ 0 ∷ 0 ∷ 2 ∷ []) ++ (1329725440 ∷ 5 ∷ 0 ∷ 1 ∷ 0 ∷ 3 ∷ 0 ∷ []) ++ (1145132097 ∷ 5 ∷ 0 ∷ 1 ∷ 0 ∷ 4 ∷ 0 ∷ [])
+
+-- the first that is found by its address is the OB; two rows fewer find nothing; more rows than there are; Null; parts in a file of 3 bytes
+searches : (lookupAs table 3 5 ≡ accepts 1 (1 ∷ [])) × (lookupAs table 1 5 ≡ accepts 2 []) × (lookupAs table 4 0 ≡ refuses 13 []) × (lookupAs table 3 0 ≡ accepts 0 [])
+    × (partAs (7 ∷ 8 ∷ 9 ∷ []) table 0 ≡ 7 ∷ 8 ∷ []) × (viewAs (7 ∷ 8 ∷ 9 ∷ []) table 1 ≡ accepts 0 []) × (viewAs (7 ∷ 8 ∷ 9 ∷ []) table 2 ≡ refuses 13 []) × (viewAs (7 ∷ 8 ∷ 9 ∷ []) table 3 ≡ refuses 13 [])
+unfolding lookupAs seek kindOf viewAs partAs
+searches = (refl, refl, refl, refl, refl, refl, refl, refl)
+
+-- codes: of an OB its bytes; of DATA, of no block code and of a number over 2^32-1 none
+codes : (codeAs 1329725440 ≡ accepts 0 (79 ∷ 66 ∷ 0 ∷ 0 ∷ [])) × (codeAs 1145132097 ≡ accepts 1 []) × (codeAs 1329725441 ≡ accepts 1 []) × (codeAs 4294967296 ≡ accepts 1 [])
+unfolding codeAs kindOf
+codes = (refl, refl, refl, refl)

@@ -1,0 +1,103 @@
+-- Laws of views and of the address search, from what the code asked.
+use Prim.Native.Nat.{ℕ, suc, _+_, _-_, _/_, _≤_, _<_}
+use mathlib.Core.Bool.{Bool, true, false, _&&_}
+use mathlib.Core.List.{List, []}
+use mathlib.Core.Path.{_≡_, refl, sym, _∙_, ap}
+use native.Mathlib.Omega.{arith}
+use borrow.Author.Tests.{lt-ltb, le-ltb, eq-eqb, ne-eqb, le-leb}
+use lib.ListN.{length}
+use Rattle.primitive.specs.declared.Fault.{Fault}
+use Rattle.primitive.specs.declared.Fault.the-variants.{Cut}
+use Rattle.primitive.specs.Cursor.{partOf}
+use Rattle.primitive.specs.Paper.{Paper}
+use Rattle.primitive.specs.Paper.Paper.{accepts}
+use Rattle.primitive.specs.Reader.{Outcome, run, room}
+use Rattle.primitive.specs.Reader.Reader.{done, skip}
+use Rattle.primitive.specs.Reader.Outcome.{read, fault}
+use Rattle.primitive.specs.Refusals.{notThere}
+use Rattle.primitive.proofs.Tests.{held, failed}
+use Rattle.blend.specs.Views.{cell, isThere, viewAs, partAs}
+use Rattle.blend.specs.Addresses.{matches, null, found, missing, seek, lookupAs}
+use Rattle.blend.proofs.Rows.{skip-room}
+
+module _ (s t : List ℕ) (row : ℕ) where
+  no-row : length t / 7 ≤ row → isThere s t row ≡ false
+  no-row h = ap (λ (b : Bool). b && room s (cell t row 5) (cell t row 6)) (le-ltb _ _ h)
+
+  pub view-no-row : length t / 7 ≤ row → notThere ≡ viewAs s t row
+  unfolding viewAs
+  view-no-row h = sym (failed _ _ (no-row h))
+
+  pub part-no-row : length t / 7 ≤ row → [] ≡ partAs s t row
+  unfolding partAs
+  part-no-row h = sym (failed _ _ (no-row h))
+
+  module _ (h : row < length t / 7) (at n : ℕ) (a : at ≡ cell t row 5) (b : n ≡ cell t row 6) where
+    by-room : isThere s t row ≡ room s at n
+    by-room = ap (λ (c : Bool). c && room s (cell t row 5) (cell t row 6)) (lt-ltb _ _ h) ∙ rw (a, b) refl
+
+    pub view-there : (next : ℕ) → _≡_ {A = Outcome (Unit {0})} (read tt next) (run (skip n (done tt)) s at) → accepts 0 [] ≡ viewAs s t row
+    unfolding viewAs
+    view-there next g = sym (held _ _ (by-room ∙ le-leb _ _ (skip-room n s at next g .1)))
+
+    pub view-not-there : (x : Fault) → _≡_ {A = Outcome (Unit {0})} (fault x) (run (skip n (done tt)) s at) → notThere ≡ viewAs s t row
+    unfolding viewAs run
+    view-not-there x g = go (room s at n) refl g
+      where
+        go : (c : Bool) → room s at n ≡ c → _≡_ {A = Outcome (Unit {0})} (fault x) (elim c as (λ (d : Bool). Outcome (Unit {0})) [ true ↦ read tt (at + n) | false ↦ fault (Cut at) ])
+            → notThere ≡ viewAs s t row
+        go true e w = cc
+        go false e w = sym (failed _ _ (by-room ∙ e))
+
+    pub part-there : (p : List ℕ) → p ≡ partOf s at n → p ≡ partAs s t row
+    unfolding partOf partAs
+    part-there p g = g ∙ go (room s at n) refl
+      where
+        go : (c : Bool) → room s at n ≡ c → partOf s at n ≡ partAs s t row
+        go true e = held _ _ e ∙ rw (a, b) refl ∙ sym (held _ _ (by-room ∙ e))
+        go false e = failed _ _ e ∙ sym (failed _ _ (by-room ∙ e))
+
+-- the search, a row a turn
+module _ (t : List ℕ) (rows address : ℕ) where
+  pub at-row : ℕ → Bool
+  at-row row = matches address (cell t row 0) (cell t row 1)
+
+  pub lookup-short : length t / 7 < rows → notThere ≡ lookupAs t rows address
+  unfolding lookupAs
+  lookup-short h = sym (held _ _ (lt-ltb _ _ h))
+
+  module _ (h : rows ≤ length t / 7) where
+    pub lookup-null : address ≡ 0 → null ≡ lookupAs t rows address
+    unfolding lookupAs
+    lookup-null e = sym (failed _ _ (le-ltb _ _ h) ∙ held _ _ (eq-eqb _ _ e))
+
+    pub lookup-starts : (address ≡ 0 → ⊥) → lookupAs t rows address ≡ seek at-row (rows - 0) 0
+    unfolding lookupAs at-row
+    lookup-starts e =
+        let k : rows ≡ rows - 0 = omega arith in
+        failed _ _ (le-ltb _ _ h) ∙ failed _ _ (ne-eqb _ _ e) ∙ ap (λ (n : ℕ). seek at-row n 0) k
+
+  -- what is left of the search from a row on
+  module _ (row : ℕ) (w : lookupAs t rows address ≡ seek at-row (rows - row) row) where
+    module _ (l : row < rows) (b : Bool) (c d : ℕ) (e : b ≡ matches address c d) (f : c ≡ cell t row 0) (g : d ≡ cell t row 1) where
+      here : at-row row ≡ b
+      unfolding at-row
+      here = sym (e ∙ rw (f, g) refl)
+
+      next-row : seek at-row (rows - row) row ≡ (elim b as (λ (x : Bool). Paper) [ true ↦ found row | false ↦ seek at-row (rows - (row + 1)) (row + 1) ])
+      unfolding seek
+      next-row =
+          let k : rows - row ≡ suc (rows - (row + 1)) = omega arith in
+          ap (λ (n : ℕ). seek at-row n row) k ∙ ap (λ (x : Bool). elim x as (λ (y : Bool). Paper) [ true ↦ found row | false ↦ seek at-row (rows - (row + 1)) (row + 1) ]) here
+
+      pub lookup-found : b ≡ true → found row ≡ lookupAs t rows address
+      lookup-found u = sym (w ∙ next-row ∙ held _ _ u)
+
+      pub lookup-on : b ≡ false → lookupAs t rows address ≡ seek at-row (rows - (row + 1)) (row + 1)
+      lookup-on u = w ∙ next-row ∙ failed _ _ u
+
+    pub lookup-missing : rows ≤ row → missing ≡ lookupAs t rows address
+    unfolding seek
+    lookup-missing l =
+        let k : rows - row ≡ 0 = omega arith in
+        sym (w ∙ ap (λ (n : ℕ). seek at-row n row) k)

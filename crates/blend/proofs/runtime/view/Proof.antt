@@ -1,0 +1,45 @@
+-- `view`: the row, and its part.
+use mathlib.Core.Path.{sym, _∙_, ap}
+use denote.Ref.{now}
+use Rattle.primitive.specs.Cursor.{moved}
+use Rattle.blend.proofs.Views.{view-no-row, view-there, view-not-there}
+use borrow.Author.Needs.{needs}
+use Rattle.blend.proofs.runtime.view.Statement.{statement}
+use Rattle.blend.proofs.runtime.view.Tie as tie
+
+cell-requires : tie.Need-cell-requires
+cell-requires c κs = search needs
+
+cell-requires-2 : tie.Need-cell-requires-2
+cell-requires-2 c κs = search needs
+
+skip-requires : tie.Need-skip-requires
+skip-requires c κs = search needs
+
+enum-told : tie.Need-enum-told
+enum-told c = search needs
+
+enum-told-2 : tie.Need-enum-told-2
+enum-told-2 c = search needs
+
+returns : tie.Need-returns
+returns c = view-there (now (c .before .before .before .before .before .before .before .before .args .file)) (now (c .before .before .before .before .before .before .before .before .args .table)) (c .before .before .before .before .before .before .before .before .args .row) (c .before .before .before .before .before .if1 .taken) _ _ (c .before .before .before .before .cell .ensures) (c .before .before .before .cell2 .ensures) _ (ap moved (sym (c .enum-told .given .1)) ∙ c .before .before .skip .ensures)
+
+returns-2 : tie.Need-returns-2
+returns-2 c = view-not-there (now (c .before .before .before .before .before .before .before .before .args .file)) (now (c .before .before .before .before .before .before .before .before .args .table)) (c .before .before .before .before .before .before .before .before .args .row) (c .before .before .before .before .before .if1 .taken) _ _ (c .before .before .before .before .cell .ensures) (c .before .before .before .cell2 .ensures) _ (ap moved (sym (c .enum-told2 .given .1)) ∙ c .before .before .skip .ensures)
+
+returns-3 : tie.Need-returns-3
+returns-3 c = view-no-row (now (c .before .before .before .args .file)) (now (c .before .before .before .args .table)) (c .before .before .before .args .row) (c .if1 .left)
+
+pub view-spec : {M : Type 1} → statement M
+view-spec =
+    tie.close
+    (tie.spec
+    cell-requires
+    cell-requires-2
+    skip-requires
+    enum-told
+    enum-told-2
+    returns
+    returns-2
+    returns-3)

@@ -1,0 +1,175 @@
+-- Blocks: the layout of a block header, what is read at a boundary, and a block's row.
+use Prim.Native.Nat.{ℕ, _+_, _%_, _^_}
+use Prim.Native.String.{String}
+use mathlib.Core.Bool.{Bool, true, false, _&&_}
+use mathlib.Core.List.{List, [], _∷_}
+use lib.Dec.{ltb, eqb}
+use lib.ListN.{take, drop}
+use Rattle.primitive.specs.declared.Endianness.{Endianness}
+use Rattle.primitive.specs.declared.Endianness.the-variants.{Little, Big}
+use Rattle.primitive.specs.declared.Fault.{Fault}
+use Rattle.primitive.specs.declared.PointerSize.{PointerSize}
+use Rattle.primitive.specs.declared.PointerSize.the-variants.{Bits32, Bits64}
+use Rattle.primitive.specs.declared.Fault.the-variants.{Cut, Mark, Refusal}
+use Rattle.primitive.specs.Ascii.{ascii}
+use Rattle.primitive.specs.Number.{spelled, number}
+use Rattle.primitive.specs.PointerSize.{pointerBytes}
+use Rattle.primitive.specs.Reader.{Reader, Outcome, run, then, stands}
+use Rattle.primitive.specs.Reader.Reader.{done, refuse, skip}
+use Rattle.primitive.specs.Reader.Outcome.{read, fault}
+use Rattle.dna.specs.Catalogue.{Dna, catalogue, counts}
+use Rattle.blend.specs.declared.FileFormat.{FileFormat}
+use Rattle.blend.specs.declared.FileFormat.the-variants.{Legacy, New}
+use Rattle.blend.specs.declared.Header.{Header}
+use Rattle.blend.specs.declared.BlockHeader.{BlockHeader}
+use Rattle.blend.specs.declared.Row.{Row}
+use Rattle.blend.specs.declared.Kind.{Kind}
+use Rattle.blend.specs.declared.blend.Last.{Last}
+use Rattle.blend.specs.declared.blend.Boundary.{Boundary}
+
+-- Layout: after the code of 4 bytes, these numbers in order, each with its width and its byte order.
+pub data Field : Type 0 where
+  size : Field
+  address : Field
+  index : Field
+  count : Field
+
+pub record Item : Type 0 where
+  pub field : Field
+  pub width : ℕ
+  pub order : Endianness
+
+abbrev pub item : Field → ℕ → Endianness → Item
+item f w e = record { field = f; width = w; order = e }
+
+-- by edition, pointer bytes and the file's order
+abbrev pub layoutOf : FileFormat → ℕ → Endianness → List Item
+layoutOf Legacy p e = item size 4 e ∷ item address p e ∷ item index 4 e ∷ item count 4 e ∷ []
+layoutOf New p e = item index 4 Little ∷ item address p e ∷ item size 8 Little ∷ item count 8 Little ∷ []
+
+abbrev pub layout : Header → List Item
+layout h = layoutOf (h .format) (pointerBytes (h .«pointer_size»)) (h .endianness)
+
+-- block headers are 20, 24, 28 or 32 bytes by edition and pointer size: as long as their layout (proofs/Layouts.antt)
+abbrev pub blockHeaderLength : FileFormat → PointerSize → ℕ
+blockHeaderLength Legacy Bits32 = 20
+blockHeaderLength Legacy Bits64 = 24
+blockHeaderLength New Bits32 = 28
+blockHeaderLength New Bits64 = 32
+
+-- a block header with one number told
+abbrev pub tell : Field → ℕ → BlockHeader → BlockHeader
+tell size n b = record { code = b .code; size = n; address = b .address; index = b .index; count = b .count }
+tell address n b = record { code = b .code; size = b .size; address = n; index = b .index; count = b .count }
+tell index n b = record { code = b .code; size = b .size; address = b .address; index = n; count = b .count }
+tell count n b = record { code = b .code; size = b .size; address = b .address; index = b .index; count = n }
+
+-- address not 0 (3), for every code
+abbrev pub tested : {A : Type 0} → Field → ℕ → Reader A → Reader A
+tested size n r = r
+tested address n r = elim (eqb n 0) [ true ↦ refuse 3 | false ↦ r ]
+tested index n r = r
+tested count n r = r
+
+-- the numbers of a layout, one after another
+unfoldable pub fields : List Item → BlockHeader → Reader BlockHeader
+fields [] b = done b
+fields (i ∷ is) b = number (i .order) (i .width) (λ n. tested (i .field) n (fields is (tell (i .field) n b)))
+
+-- a block header: its code, first byte most significant, and the numbers of its layout
+unfoldable pub blockHeader : Header → Reader BlockHeader
+unfolding fields
+blockHeader h = number Big 4 (λ c. fields (layout h) (record { code = c; size = 0; address = 0; index = 0; count = 0 }))
+
+-- Kinds follow from the code's number alone. Any two bytes then two zeros: Principal.
+abbrev pub codeNumber : String → ℕ
+codeNumber t = spelled Big (ascii t)
+
+abbrev pub isPrincipal : ℕ → Bool
+isPrincipal n = ltb n (2 ^ 32) && eqb (n % 2 ^ 16) 0
+
+unfoldable pub kindOf : ℕ → Kind
+kindOf n =
+    elim (eqb n (codeNumber "REND")) [
+      | true ↦ Kind.Rend
+      | false ↦ elim (eqb n (codeNumber "TEST")) [
+        | true ↦ Kind.Test
+        | false ↦ elim (eqb n (codeNumber "GLOB")) [
+          | true ↦ Kind.Global
+          | false ↦ elim (eqb n (codeNumber "DATA")) [
+            | true ↦ Kind.Subsidiary
+            | false ↦ elim (eqb n (codeNumber "DNA1")) [
+              | true ↦ Kind.Dna
+              | false ↦ elim (isPrincipal n) [ true ↦ Kind.Principal | false ↦ Kind.Unknown ]
+            ]
+          ]
+        ]
+      ]
+    ]
+
+-- the code's test: of a Principal the count must be 1 (4); anything that is no block code is 5
+abbrev pub taken : Kind → ℕ → Reader (Unit {0})
+taken Kind.Rend n = done tt
+taken Kind.Test n = done tt
+taken Kind.Global n = done tt
+taken Kind.Subsidiary n = done tt
+taken Kind.Dna n = done tt
+taken Kind.Principal n = elim (eqb n 1) [ true ↦ done tt | false ↦ refuse 4 ]
+taken Kind.Unknown n = refuse 5
+
+-- Order of checks: the header, then a payload of `size` bytes, which is not looked at, then the code. A DNA1's catalogue comes after that, in `finished`.
+unfoldable pub block : Header → Reader BlockHeader
+unfolding then blockHeader
+block h = then (blockHeader h) (λ b. skip (b .size) (then (taken (kindOf (b .code)) (b .count)) (λ u. done b)))
+
+-- A row: the block at a boundary with its offsets.
+abbrev pub rowOf : Header → ℕ → BlockHeader → Row
+rowOf h at b =
+    record { code = b .code; address = b .address; index = b .index; count = b .count; at = at; payload = at + blockHeaderLength (h .format) (h .«pointer_size»); len = b .size }
+
+abbrev pub rowed : Header → ℕ → Outcome BlockHeader → Outcome Row
+rowed h at (read b next) = read (rowOf h at b) next
+rowed h at (fault f) = fault f
+
+unfoldable pub rowAt : Header → List ℕ → ℕ → Outcome Row
+rowAt h s at = rowed h at (run (block h) s at)
+
+-- the payload that a row tells of
+abbrev pub payloadOf : List ℕ → Row → List ℕ
+payloadOf s r = take (r .len) (drop (r .payload) s)
+
+-- a fault in a payload, told by its place in the file
+abbrev pub within : ℕ → Fault → Fault
+within from (Cut at) = Cut (from + at)
+within from (Mark at) = Mark (from + at)
+within from (Refusal n) = Refusal n
+
+-- DNA1: its payload must read as a catalogue.
+abbrev pub catalogued : Row → ℕ → Outcome Dna → Boundary
+catalogued r next (read d end) = Boundary.Block r (Last.Dna (counts d)) next
+catalogued r next (fault f) = Boundary.Stopped (within (r .payload) f)
+
+abbrev pub isDna : Kind → Bool
+isDna Kind.Rend = false
+isDna Kind.Test = false
+isDna Kind.Global = false
+isDna Kind.Subsidiary = false
+isDna Kind.Dna = true
+isDna Kind.Principal = false
+isDna Kind.Unknown = false
+
+unfoldable pub finished : Header → List ℕ → Row → ℕ → Boundary
+finished h s r next =
+    elim (isDna (kindOf (r .code))) [
+      | true ↦ catalogued r next (run (catalogue (h .endianness)) (payloadOf s r) 0)
+      | false ↦ Boundary.Block r Last.Other next
+    ]
+
+abbrev pub finish : Header → List ℕ → Outcome Row → Boundary
+finish h s (read r next) = finished h s r next
+finish h s (fault f) = Boundary.Stopped f
+
+-- At each boundary: if the next 4 bytes are "ENDB", reading ends there. Otherwise a block is read: its row; whether it is a DNA1, and then its
+-- counts; and the next boundary.
+unfoldable pub boundaryOf : Header → List ℕ → ℕ → Boundary
+boundaryOf h s at = elim (stands s at (ascii "ENDB")) [ true ↦ Boundary.EndMark | false ↦ finish h s (rowAt h s at) ]

@@ -1,0 +1,123 @@
+-- Header: one reading tree over a file's first bytes, and the value that is made of the bytes that the tree read.
+use Prim.Native.Char.{code}
+use Prim.Native.Nat.{ℕ, _+_, _*_, _-_, _/_, _%_}
+use mathlib.Core.Bool.{true, false}
+use mathlib.Core.List.{List, [], _∷_, _++_}
+use Rattle.primitive.specs.declared.Endianness.{Endianness}
+use Rattle.primitive.specs.declared.Endianness.the-variants.{Little, Big}
+use Rattle.primitive.specs.declared.PointerSize.{PointerSize}
+use Rattle.primitive.specs.declared.PointerSize.the-variants.{Bits32, Bits64}
+use Rattle.primitive.specs.Ascii.{ascii}
+use Rattle.primitive.specs.Number.{tag}
+use Rattle.primitive.specs.Paper.{Paper}
+use Rattle.primitive.specs.Paper.Paper.{accepts, refuses}
+use Rattle.primitive.specs.PointerSize.{pointerBytes}
+use Rattle.primitive.specs.Reader.{Reader, Outcome}
+use Rattle.primitive.specs.Reader.Reader.{done, refuse, bytes, begins}
+use Rattle.primitive.specs.Reader.Outcome.{read, fault}
+use Rattle.primitive.specs.Refusals.{paperFault}
+use Rattle.dna.specs.Declarators.{isDigit}
+use Rattle.blend.specs.declared.FileFormat.{FileFormat}
+use Rattle.blend.specs.declared.FileFormat.the-variants.{Legacy, New}
+use Rattle.blend.specs.declared.Version.{Version}
+use Rattle.blend.specs.declared.Header.{Header}
+use Rattle.blend.specs.declared.blend.PointerSizeRead.{PointerSizeRead}
+use Rattle.blend.specs.declared.blend.EndiannessRead.{EndiannessRead}
+use Rattle.blend.specs.declared.blend.VersionRead.{VersionRead}
+use Rattle.blend.specs.declared.blend.HeaderAnswer.{HeaderAnswer}
+
+-- How many bytes a header has.
+abbrev pub headerLength : FileFormat → ℕ
+headerLength Legacy = 12
+headerLength New = 17
+
+-- Version: the ASCII digits among the version bytes, read in decimal. `n` is what was read so far.
+unfoldable pub decimal : ℕ → List ℕ → ℕ
+decimal n [] = n
+decimal n (b ∷ bs) = elim (isDigit b) [ true ↦ decimal (n * 10 + (b - code "0")) bs | false ↦ decimal n bs ]
+
+-- Major is the value divided by 100, minor the remainder.
+abbrev pub versionOf : List ℕ → Version
+versionOf bs = record { major = decimal 0 bs / 100; minor = decimal 0 bs % 100 }
+
+-- one of two marks, and what each stands for
+abbrev pub oneOf : {A B : Type 0} → List ℕ → A → List ℕ → A → (A → Reader B) → Reader B
+oneOf m a n b k = begins m (k a) (tag n (k b))
+
+-- pointer mark: `_` 32 bits, `-` 64
+abbrev pub pointerMark : {B : Type 0} → (PointerSize → Reader B) → Reader B
+pointerMark k = oneOf (ascii "_") Bits32 (ascii "-") Bits64 k
+
+-- order mark: `v` little, `V` big
+abbrev pub orderMark : {B : Type 0} → (Endianness → Reader B) → Reader B
+orderMark k = oneOf (ascii "v") Little (ascii "V") Big k
+
+-- What a header's bytes are: the edition, what the two marks stand for, the unchecked bytes (none in a Legacy file; no
+-- value is made of them, but a stricter reading can look at them), and the version bytes.
+pub record HeaderBytes : Type 0 where
+  pub format : FileFormat
+  pub pointer : PointerSize
+  pub order : Endianness
+  pub unchecked : List ℕ
+  pub version : List ℕ
+
+-- Legacy, after its pointer mark: order mark, 3 version bytes.
+unfoldable pub legacy : PointerSize → Reader HeaderBytes
+legacy p = orderMark (λ e. bytes 3 (λ v. done (record { format = Legacy; pointer = p; order = e; unchecked = []; version = v })))
+
+-- New: 2 bytes unchecked, pointer mark, 2 bytes unchecked, order mark, 4 version bytes.
+unfoldable pub new : Reader HeaderBytes
+new =
+    bytes 2 (λ a. pointerMark (λ p. bytes 2 (λ b. orderMark (λ e. bytes 4 (λ v.
+    done (record { format = New; pointer = p; order = e; unchecked = a ++ b; version = v }))))))
+
+-- The first 7 bytes are "BLENDER", else refusal 1 (also when fewer are there). If the next byte is `_` or `-` the file is Legacy, otherwise New.
+unfoldable pub headerBytes : Reader HeaderBytes
+unfolding legacy new
+headerBytes = begins (ascii "BLENDER") (begins (ascii "_") (legacy Bits32) (begins (ascii "-") (legacy Bits64) new)) (refuse 1)
+
+-- the value that is made of a header's bytes, and of what the tree found
+abbrev pub headerOf : HeaderBytes → Header
+headerOf b = record { «pointer_size» = b .pointer; endianness = b .order; version = versionOf (b .version); format = b .format }
+
+abbrev pub valued : Outcome HeaderBytes → Outcome Header
+valued (read b next) = read (headerOf b) next
+valued (fault f) = fault f
+
+-- What the reads of a header's parts answer, in the terms of the reading trees.
+abbrev pub pointerSizeRead : PointerSizeRead → Outcome PointerSize
+pointerSizeRead (PointerSizeRead.Is p c) = read p (c .at)
+pointerSizeRead (PointerSizeRead.Stopped f) = fault f
+
+abbrev pub endiannessRead : EndiannessRead → Outcome Endianness
+endiannessRead (EndiannessRead.Is e c) = read e (c .at)
+endiannessRead (EndiannessRead.Stopped f) = fault f
+
+abbrev pub versionRead : VersionRead → Outcome Version
+versionRead (VersionRead.Is v c) = read v (c .at)
+versionRead (VersionRead.Stopped f) = fault f
+
+-- What `header` answers: on paper, edition (0 legacy, 1 new), pointer bytes, order (0 little, 1 big), major and minor; and the header's length.
+abbrev pub edition : FileFormat → ℕ
+edition Legacy = 0
+edition New = 1
+
+abbrev pub order : Endianness → ℕ
+order Little = 0
+order Big = 1
+
+abbrev pub headerNumbers : Header → List ℕ
+headerNumbers h = edition (h .format) ∷ pointerBytes (h .«pointer_size») ∷ order (h .endianness) ∷ h .version .major ∷ h .version .minor ∷ []
+
+abbrev pub headerAs : Outcome Header → Paper
+headerAs (read h next) = accepts 0 (headerNumbers h ++ (next ∷ []))
+headerAs (fault f) = paperFault f
+
+abbrev pub paperHeader : HeaderAnswer → Paper
+paperHeader (HeaderAnswer.Is h at) = accepts 0 (headerNumbers h ++ (at ∷ []))
+paperHeader (HeaderAnswer.Refused n) = refuses n []
+
+-- the number of a header's refusal, 0 where it is none
+abbrev pub refusalOf : HeaderAnswer → ℕ
+refusalOf (HeaderAnswer.Is h at) = 0
+refusalOf (HeaderAnswer.Refused n) = n

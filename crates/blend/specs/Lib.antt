@@ -1,0 +1,8 @@
+-- The rules of the file's layer.
+pub mod Header
+pub mod Blocks
+pub mod Chain
+pub mod Walker
+pub mod Views
+pub mod Addresses
+pub mod Helpers

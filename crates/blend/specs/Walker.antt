@@ -1,0 +1,72 @@
+-- Walker: one step from any place in any file. proofs/Walks.antt: its steps from the start give the reader's rows, one after another, and then the
+-- reader's end or refusal (6 included, 7 never), again and again.
+use Prim.Native.Nat.{ℕ, _+_}
+use mathlib.Core.Bool.{Bool, true, false}
+use mathlib.Core.List.{List, [], _∷_}
+use lib.Dec.{ltb}
+use lib.ListN.{length}
+use Rattle.primitive.specs.Paper.{Paper}
+use Rattle.primitive.specs.Paper.Paper.{accepts, refuses}
+use Rattle.primitive.specs.Reader.{Reader, Outcome, run}
+use Rattle.primitive.specs.Reader.Outcome.{read, fault}
+use Rattle.primitive.specs.Refusals.{noDnaBlockFound, notThere, paperFault}
+use Rattle.blend.specs.declared.Header.{Header}
+use Rattle.blend.specs.declared.blend.Last.{Last}
+use Rattle.blend.specs.declared.blend.Boundary.{Boundary}
+use Rattle.blend.specs.declared.walker.Place.{Place}
+use Rattle.blend.specs.declared.walker.Step.{Step}
+use Rattle.blend.specs.Header.{HeaderBytes, valued}
+use Rattle.blend.specs.Blocks.{boundaryOf}
+use Rattle.blend.specs.Chain.{rowNumbers}
+
+-- A step's answer, and the place that it hands back.
+pub record Walked : Type 0 where
+  pub answer : Paper
+  pub place : Place
+
+-- A refusal and the end mark leave the place as it is, so the next step answers the same.
+abbrev pub stays : Place → Paper → Walked
+stays p a = record { answer = a; place = p }
+
+abbrev pub lastIsDna : Last → Bool
+lastIsDna Last.Other = false
+lastIsDna (Last.Dna n) = true
+
+-- the end: the offset after the end mark, or 6 where the last block was no DNA1
+abbrev pub endMark : Bool → ℕ → Paper
+endMark true next = accepts 1 (next ∷ [])
+endMark false next = noDnaBlockFound
+
+-- what is at a boundary; `p` is the place that was asked, `b` the boundary that it stands for
+abbrev pub stepOver : Place → Place → Boundary → Walked
+stepOver p b Boundary.EndMark = stays p (endMark (b .dna) (b .at + 4))
+stepOver p b (Boundary.Block r l next) = record { answer = accepts 0 (rowNumbers r); place = record { at = next; dna = lastIsDna l } }
+stepOver p b (Boundary.Stopped f) = stays p (paperFault f)
+
+-- A place that is not past the header stands for the first boundary, where no block was read.
+abbrev pub standsFor : ℕ → Place → Place
+standsFor first p = elim (ltb first (p .at)) [ true ↦ p | false ↦ record { at = first; dna = false } ]
+
+abbrev pub onHeader : List ℕ → Place → Outcome Header → Walked
+onHeader s p (read h first) = stepOver p (standsFor first p) (boundaryOf h s (standsFor first p .at))
+onHeader s p (fault f) = stays p (paperFault f)
+
+-- 13 first of all where the place lies past the file's end, then the header's refusal, then the block at that boundary
+unfoldable pub stepBy : Reader HeaderBytes → List ℕ → Place → Walked
+stepBy header s p = elim (ltb (length s) (p .at)) [ true ↦ stays p notThere | false ↦ onHeader s p (valued (run header s 0)) ]
+
+-- the paper of the answer
+abbrev pub paperStep : Step → Paper
+paperStep (Step.Block r p) = accepts 0 (rowNumbers r)
+paperStep (Step.End at p) = accepts 1 (at ∷ [])
+paperStep (Step.Refused n p) = refuses n []
+
+-- the place that is handed back
+abbrev pub placeOf : Step → Place
+placeOf (Step.Block r p) = p
+placeOf (Step.End at p) = p
+placeOf (Step.Refused n p) = p
+
+-- where a walk starts
+abbrev pub start : Place
+start = record { at = 0; dna = false }

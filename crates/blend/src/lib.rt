@@ -1,0 +1,205 @@
+// The values that a reading of a file has: the types of parsers/blend.rs of the Rust, and a block's row.
+pub mod blend;
+pub mod runtime;
+pub mod walker;
+
+use primitive::Endianness;
+use primitive::PointerSize;
+ghost use mathlib.Core.Path.{_≡_};
+ghost use Prim.Native.Nat.{_+_, _≤_, _<_};
+ghost use lib.ListN.{length};
+ghost use mathlib.Core.List.{[], _∷_};
+ghost use Rattle.blend.specs.Header as headers;
+ghost use Rattle.blend.specs.Blocks.{blockHeaderLength, kindOf};
+
+/// The on-disk layout of a blend file.
+pub enum FileFormat {
+    /// Pre-5.0 format: 12-byte file header and a block header of
+    /// `code(4) + size(u32) + address(ptr) + sdna_index(u32) + count(u32)`.
+    Legacy,
+    /// Blender 5.0+ format: 17-byte file header and a block header of
+    /// `code(4) + sdna_index(u32) + address(ptr) + size(u64) + count(u64)`.
+    New,
+}
+
+impl FileFormat {
+    pub const LEGACY_HEADER: usize = 12;
+
+    pub const NEW_HEADER: usize = 17;
+
+    // A block header's bytes beside its address.
+    pub const LEGACY_BLOCK: usize = 16;
+
+    pub const NEW_BLOCK: usize = 24;
+
+    /// Returns the length of the file header in bytes.
+    pub fn header_len(self) -> usize
+        ensures { λ r. ⌜ r ≡ headers.headerLength self ⌝ }
+        ensures constants { λ _. do ⌜ ((← ⟦FileFormat::LEGACY_HEADER⟧ .entry) ≡ 12) × ((← ⟦FileFormat::NEW_HEADER⟧ .entry) ≡ 17) ⌝ }
+    {
+        match self {
+            FileFormat::Legacy => FileFormat::LEGACY_HEADER,
+            FileFormat::New => FileFormat::NEW_HEADER,
+        }
+    }
+
+    /// Returns the length of a block header in bytes: 20, 24, 28 or 32.
+    pub fn block_header_len(self, pointer_size: PointerSize) -> usize
+        ensures { λ r. ⌜ r ≡ blockHeaderLength self «pointer_size» ⌝ }
+        ensures constants { λ _. do ⌜ ((← ⟦FileFormat::LEGACY_BLOCK⟧ .entry) ≡ 16) × ((← ⟦FileFormat::NEW_BLOCK⟧ .entry) ≡ 24) ⌝ }
+    {
+        match self {
+            FileFormat::Legacy => FileFormat::LEGACY_BLOCK + pointer_size.bytes_num(),
+            FileFormat::New => FileFormat::NEW_BLOCK + pointer_size.bytes_num(),
+        }
+    }
+}
+
+/// The version of Blender used to save the blend file.
+pub struct Version {
+    pub major: u16,
+    pub minor: u16,
+}
+
+impl Version {
+    /// The version that ASCII digits spell; other bytes are passed over.
+    pub(crate) fn from_digits(digits: &[u8]) -> Self
+        requires { ⌜ length (now digits) ≤ 4 ⌝ }
+        ensures { λ r. ⌜ r ≡ headers.versionOf (now (digits .entry)) ⌝ }
+    {
+        let mut combined: u16 = 0;
+        let mut i = 0;
+        while i < digits.len() {
+            combined = with_digit(combined, digits[i]);
+            i += 1;
+        }
+        Version {
+            major: combined / 100,
+            minor: combined % 100,
+        }
+    }
+}
+
+// A number with one decimal digit more, or the same where the byte is none.
+fn with_digit(n: u16, b: u8) -> u16
+    requires { ⌜ n < 1000 ⌝ }
+    ensures { λ r. ⌜ r ≡ headers.decimal n (b ∷ []) ⌝ }
+{
+    if b < b'0' {
+        return n;
+    }
+    if b'9' < b {
+        return n;
+    }
+    n * 10 + ((b - b'0') as u16)
+}
+
+pub struct Header {
+    /// The size of the pointer on the machine used to save the blend file.
+    pub pointer_size: PointerSize,
+    /// The endianness on the machine used to save the blend file.
+    pub endianness: Endianness,
+    /// The version of Blender used to save the blend file.
+    pub version: Version,
+    /// The on-disk layout of the file, which controls how block headers are parsed.
+    pub format: FileFormat,
+}
+
+impl Header {
+    pub fn new(
+        pointer_size: PointerSize,
+        endianness: Endianness,
+        version: Version,
+        format: FileFormat,
+    ) -> Self
+        ensures { λ r. ⌜ r ≡ record { «pointer_size» = «pointer_size»; endianness = endianness; version = version; format = format } ⌝ }
+    {
+        Header {
+            pointer_size,
+            endianness,
+            version,
+            format,
+        }
+    }
+}
+
+// What a block header says.
+pub struct BlockHeader {
+    pub code: u64,
+    pub size: u64,
+    pub address: u64,
+    pub index: u64,
+    pub count: u64,
+}
+
+impl BlockHeader {
+    pub fn new(code: u64, size: u64, address: u64, index: u64, count: u64) -> Self
+        ensures { λ r. ⌜ r ≡ record { code = code; size = size; address = address; index = index; count = count } ⌝ }
+    {
+        BlockHeader {
+            code,
+            size,
+            address,
+            index,
+            count,
+        }
+    }
+}
+
+// What a block is, by its code: the variants of the Rust's Block, and a code that is none of them.
+pub enum Kind {
+    Rend,
+    Test,
+    Global,
+    Principal,
+    Subsidiary,
+    Dna,
+    Unknown,
+}
+
+impl Kind {
+    // Which kind a code's number is, its first byte most significant.
+    pub fn of_code(code: u64) -> Self
+        ensures { λ r. ⌜ r ≡ kindOf code ⌝ }
+    {
+        if code == 0x5245_4e44 {
+            return Kind::Rend;
+        }
+        if code == 0x5445_5354 {
+            return Kind::Test;
+        }
+        if code == 0x474c_4f42 {
+            return Kind::Global;
+        }
+        if code == 0x4441_5441 {
+            return Kind::Subsidiary;
+        }
+        if code == 0x444e_4131 {
+            return Kind::Dna;
+        }
+        if 0xffff_ffff < code {
+            return Kind::Unknown;
+        }
+        if code % 0x1_0000 == 0 {
+            Kind::Principal
+        } else {
+            Kind::Unknown
+        }
+    }
+}
+
+// A block as the row table has it: its header's numbers but for the size, where its header and its payload start, and the payload's length.
+pub struct Row {
+    pub code: u64,
+    pub address: u64,
+    pub index: u64,
+    pub count: u64,
+    pub at: u64,
+    pub payload: u64,
+    pub len: u64,
+}
+
+impl Row {
+    // The numbers per row of a row table.
+    pub const NUMBERS: usize = 7;
+}
