@@ -26,7 +26,7 @@ use Rattle.blend.specs.declared.blend.EndiannessRead.{EndiannessRead}
 use Rattle.blend.specs.declared.blend.VersionRead.{VersionRead}
 use Rattle.blend.specs.declared.blend.HeaderAnswer.{HeaderAnswer}
 
--- How many bytes a header has.
+-- How many bytes a header has: as many as its tree takes (proofs/Headers.antt).
 abbrev pub headerLength : FileFormat → ℕ
 headerLength Legacy = 12
 headerLength New = 17

@@ -1,0 +1,545 @@
+// Reads the examples of files and nine real scenes: prints the blocks, walks them, and asks for their views, addresses and codes. The file
+// stdout has what that has to be.
+use blend::FileFormat;
+use blend::Header;
+use blend::Row;
+use blend::blend::BlendAnswer;
+use blend::blend::HeaderAnswer;
+use blend::blend::blend;
+use blend::blend::header;
+use blend::runtime::BlockCode;
+use blend::runtime::Pointer;
+use blend::runtime::ViewAnswer;
+use blend::runtime::code;
+use blend::runtime::get_ptr;
+use blend::runtime::view;
+use blend::runtime::view_part;
+use blend::walker::Place;
+use blend::walker::Step;
+use dna::dna::DnaCounts;
+use libc::STDOUT_FILENO;
+use primitive::Endianness;
+use primitive::PointerSize;
+
+// What a table holds before a call: as a code it is none, and as an offset it lies past every file.
+const FILL: u64 = 1000000007;
+
+fn text(s: &[u8]) {
+    io::write_all(STDOUT_FILENO, s);
+}
+
+fn number(label: &[u8], n: u64) {
+    text(label);
+    io::print_decimal(STDOUT_FILENO, n);
+}
+
+// At least so many hex digits.
+fn hex(n: u64, digits: usize) {
+    io::print_hex(STDOUT_FILENO, n, digits);
+}
+
+fn wide(b: u8) -> u64 {
+    b as u64
+}
+
+// One of a row's seven numbers, 0 where the table has none.
+fn cell(table: &[u64], row: usize, i: usize) -> u64 {
+    if i < Row::NUMBERS {
+        if row < table.len() / Row::NUMBERS {
+            return table[row * Row::NUMBERS + i];
+        }
+    }
+    0
+}
+
+// A number made of all bytes and of their order.
+fn sum(bytes: &[u8]) -> u64 {
+    let mut all: u64 = 0;
+    let mut i = 0;
+    while i < bytes.len() {
+        all = (all * 31 + wide(bytes[i]) % 256) % 4294967296;
+        i += 1;
+    }
+    all
+}
+
+// Whether a table's numbers from one on are those that it was filled with.
+fn kept(table: &[u64], from: usize) -> bool {
+    let mut i = from;
+    while i < table.len() {
+        if table[i] != FILL {
+            return false;
+        }
+        i += 1;
+    }
+    true
+}
+
+fn kept_line(table: &[u64], from: usize) {
+    number(b"table from ", from as u64);
+    if kept(table, from) {
+        text(b" unchanged\n");
+    } else {
+        text(b" changed\n");
+    }
+}
+
+fn header_numbers(h: Header) {
+    let format = h.format;
+    let size = h.pointer_size;
+    let order = h.endianness;
+    let version = h.version;
+    match format {
+        FileFormat::Legacy => text(b" legacy"),
+        FileFormat::New => text(b" new"),
+    }
+    match size {
+        PointerSize::Bits32 => text(b" 32"),
+        PointerSize::Bits64 => text(b" 64"),
+    }
+    match order {
+        Endianness::Little => text(b" little"),
+        Endianness::Big => text(b" big"),
+    }
+    number(b" ", version.major as u64);
+    number(b" ", version.minor as u64);
+}
+
+fn refused(n: u64) {
+    number(b"refused ", n);
+}
+
+// A header alone, with its length.
+fn header_line(file: &[u8]) {
+    text(b"header of \"");
+    text(file);
+    text(b"\": ");
+    match header(file) {
+        HeaderAnswer::Is(h, len) => {
+            number(b"bytes ", len as u64);
+            header_numbers(h);
+        }
+        HeaderAnswer::Refused(n) => refused(n),
+    }
+    text(b"\n");
+}
+
+fn block_line(table: &[u64], row: usize) {
+    number(b"block ", row as u64);
+    text(b" ");
+    hex(cell(table, row, 0), 8);
+    number(b" ", cell(table, row, 1));
+    number(b" ", cell(table, row, 2));
+    number(b" ", cell(table, row, 3));
+    number(b" ", cell(table, row, 4));
+    number(b" ", cell(table, row, 5));
+    number(b" ", cell(table, row, 6));
+    text(b"\n");
+}
+
+// Whether the part is there, its length and its sum.
+fn view_of(file: &[u8], table: &[u64], row: usize) {
+    number(b"view ", row as u64);
+    match view(file, table, row) {
+        ViewAnswer::There => text(b" there"),
+        ViewAnswer::NotThere => text(b" refused 13"),
+    }
+    let part = view_part(file, table, row);
+    number(b" length ", part.len() as u64);
+    number(b" sum ", sum(part));
+}
+
+fn pointer_to(table: &[u64], rows: usize, address: u64) {
+    number(b"address ", address);
+    number(b" in ", rows as u64);
+    match get_ptr(table, rows, address) {
+        Pointer::Null => text(b" null"),
+        Pointer::Block(row) => number(b" row ", row as u64),
+        Pointer::Missing => text(b" missing"),
+        Pointer::NotThere => text(b" refused 13"),
+    }
+}
+
+fn code_of(n: u64) {
+    text(b"code ");
+    hex(n, 8);
+    match code(n) {
+        BlockCode::Is(a, b, c, d) => {
+            text(b" is ");
+            hex(wide(a), 2);
+            hex(wide(b), 2);
+            hex(wide(c), 2);
+            hex(wide(d), 2);
+        }
+        BlockCode::None => text(b" none"),
+    }
+}
+
+fn view_line(file: &[u8], table: &[u64], row: usize) {
+    view_of(file, table, row);
+    text(b"\n");
+}
+
+fn pointer_line(table: &[u64], rows: usize, address: u64) {
+    pointer_to(table, rows, address);
+    text(b"\n");
+}
+
+fn code_line(n: u64) {
+    code_of(n);
+    text(b"\n");
+}
+
+// A row's view, the row that its address leads to, and its code.
+fn asked_line(file: &[u8], table: &[u64], rows: usize, row: usize) {
+    view_of(file, table, row);
+    text(b" ");
+    pointer_to(table, rows, cell(table, row, 1));
+    text(b" ");
+    code_line(cell(table, row, 0));
+}
+
+// What a line for each row is to say.
+enum Line {
+    Numbers,
+    Asked,
+}
+
+fn row_line(line: Line, file: &[u8], table: &[u64], rows: usize, row: usize) {
+    match line {
+        Line::Numbers => block_line(table, row),
+        Line::Asked => asked_line(file, table, rows, row),
+    }
+}
+
+fn each_row(line: Line, file: &[u8], table: &[u64], rows: usize) {
+    let mut row = 0;
+    while row < rows {
+        row_line(line, file, table, rows, row);
+        row += 1;
+    }
+}
+
+fn dna_line(n: DnaCounts) {
+    number(b"dna ", n.names);
+    number(b" ", n.types);
+    number(b" ", n.structs);
+    number(b" ", n.fields);
+    text(b"\n");
+}
+
+// What the reader answers, with the rows that it wrote; and how many these are.
+fn list(answer: BlendAnswer, file: &[u8], table: &[u64]) -> usize {
+    match answer {
+        BlendAnswer::Is(b) => {
+            let h = b.header;
+            let n = b.dna;
+            let rows = b.rows;
+            text(b"blend");
+            header_numbers(h);
+            text(b"\n");
+            each_row(Line::Numbers, file, table, rows);
+            dna_line(n);
+            number(b"end ", b.end as u64);
+            text(b"\n");
+            rows
+        }
+        BlendAnswer::Refused(n) => {
+            refused(n);
+            text(b"\n");
+            0
+        }
+        BlendAnswer::TableTooShort(rows) => {
+            refused(7);
+            number(b" ", rows as u64);
+            text(b"\n");
+            0
+        }
+    }
+}
+
+fn is_row(table: &[u64], row: usize, r: Row) -> bool {
+    if cell(table, row, 0) != r.code {
+        return false;
+    }
+    if cell(table, row, 1) != r.address {
+        return false;
+    }
+    if cell(table, row, 2) != r.index {
+        return false;
+    }
+    if cell(table, row, 3) != r.count {
+        return false;
+    }
+    if cell(table, row, 4) != r.at {
+        return false;
+    }
+    if cell(table, row, 5) != r.payload {
+        return false;
+    }
+    cell(table, row, 6) == r.len
+}
+
+// Whether all blocks so far were the table's rows, with one more.
+fn still(same: bool, table: &[u64], row: usize, r: Row) -> bool {
+    if same { is_row(table, row, r) } else { false }
+}
+
+// Where a walk came to, after how many blocks, and whether they were the table's rows.
+struct Walked {
+    place: Place,
+    blocks: usize,
+    same: bool,
+}
+
+// From the start to the first step that gives no block; at most as many blocks as the table has rows.
+fn walk(file: &[u8], table: &[u64]) -> Walked {
+    let mut place = Place::start();
+    let mut blocks = 0;
+    let mut same = true;
+    while blocks < table.len() / Row::NUMBERS {
+        match place.step(file) {
+            Step::Block(r, next) => {
+                same = still(same, table, blocks, r);
+                place = next;
+                blocks += 1;
+            }
+            _ => {
+                return Walked {
+                    place,
+                    blocks,
+                    same,
+                };
+            }
+        }
+    }
+    Walked {
+        place,
+        blocks,
+        same,
+    }
+}
+
+// A step's answer, and the place that it hands back.
+fn step_from(label: &[u8], place: Place, file: &[u8]) -> Place {
+    text(label);
+    match place.step(file) {
+        Step::Block(r, next) => {
+            number(b"block at ", r.at);
+            next
+        }
+        Step::End(at, next) => {
+            number(b"end ", at as u64);
+            next
+        }
+        Step::Refused(n, next) => {
+            refused(n);
+            next
+        }
+    }
+}
+
+// A place past the end of every file here.
+fn past() -> Place {
+    Place {
+        at: 1000000,
+        dna: true,
+    }
+}
+
+// The walk, the step after its blocks, and that step once more; then a step from a place past the end.
+fn walk_line(file: &[u8], table: &[u64]) {
+    let w = walk(file, table);
+    let place = w.place;
+    number(b"walk ", w.blocks as u64);
+    if w.same {
+        text(b" as in the table");
+    } else {
+        text(b" not as in the table");
+    }
+    let last = step_from(b", then ", place, file);
+    step_from(b", again ", last, file);
+    step_from(b", past the end ", past(), file);
+    text(b"\n");
+}
+
+// Reads a file, and asks all that can be asked of it; answers the number of rows.
+fn report(file: &[u8], table: &mut [u64]) -> usize {
+    let rows = list(blend(file, table), file, table);
+    if rows <= table.len() / Row::NUMBERS {
+        kept_line(table, rows * Row::NUMBERS);
+    }
+    walk_line(file, table);
+    each_row(Line::Asked, file, table, rows);
+    view_line(file, table, rows);
+    view_line(file, table, 512);
+    rows
+}
+
+fn example(title: &[u8], file: &[u8]) {
+    let mut table = [FILL; 3584];
+    text(title);
+    text(b"\n");
+    report(file, &mut table);
+}
+
+// With 512 rows: the five lines and nothing else.
+fn with_enough(file: &[u8]) {
+    let mut table = [FILL; 3584];
+    list(blend(file, &mut table), file, &table);
+}
+
+// With one row.
+fn with_seven(file: &[u8]) {
+    let mut table = [FILL; 7];
+    text(b"table of 7 numbers\n");
+    list(blend(file, &mut table), file, &table);
+    kept_line(&table, 0);
+}
+
+// With one row and six numbers, which are no row.
+fn with_thirteen(file: &[u8]) {
+    let mut table = [FILL; 13];
+    text(b"table of 13 numbers\n");
+    list(blend(file, &mut table), file, &table);
+    kept_line(&table, 0);
+}
+
+fn hull(file: &[u8]) {
+    with_enough(file);
+    with_seven(file);
+    with_thirteen(file);
+}
+
+fn hull_file() {
+    hull(
+        b"BLENDER-v280\
+        OB\0\0\x04\0\0\0\x10\0\0\0\0\0\0\0\x03\0\0\0\x01\0\0\0hull\
+        DNA1\x34\0\0\0\x20\0\0\0\0\0\0\0\0\0\0\0\x01\0\0\0\
+        SDNANAME\x01\0\0\0x\0\0\0TYPE\x01\0\0\0int\0TLEN\x04\0\0\0STRC\x01\0\0\0\0\0\x01\0\0\0\0\0\
+        ENDB",
+    );
+}
+
+fn headers() {
+    header_line(b"BLENDE");
+    header_line(b"BLENDER");
+    header_line(b"BLENDER-v280");
+    header_line(b"BLENDER-v280ENDB");
+    example(b"BLENDE", b"BLENDE");
+    example(b"BLENDER", b"BLENDER");
+    example(b"BLENDER-v280", b"BLENDER-v280");
+    example(b"BLENDER-v280ENDB", b"BLENDER-v280ENDB");
+}
+
+fn code_of_zeros() {
+    example(
+        b"code of four zeros, count 1",
+        b"BLENDER-v280\
+        \0\0\0\0\x04\0\0\0\x10\0\0\0\0\0\0\0\x03\0\0\0\x01\0\0\0hull\
+        DNA1\x34\0\0\0\x20\0\0\0\0\0\0\0\0\0\0\0\x01\0\0\0\
+        SDNANAME\x01\0\0\0x\0\0\0TYPE\x01\0\0\0int\0TLEN\x04\0\0\0STRC\x01\0\0\0\0\0\x01\0\0\0\0\0\
+        ENDB",
+    );
+    example(
+        b"code of four zeros, count 2",
+        b"BLENDER-v280\
+        \0\0\0\0\x04\0\0\0\x10\0\0\0\0\0\0\0\x03\0\0\0\x02\0\0\0hull\
+        ENDB",
+    );
+}
+
+fn faults() {
+    example(
+        b"REND with address 0",
+        b"BLENDER-v280\
+        REND\x04\0\0\0\0\0\0\0\0\0\0\0\x03\0\0\0\x01\0\0\0hull\
+        ENDB",
+    );
+    example(
+        b"REND with address 0, cut after it",
+        b"BLENDER-v280\
+        REND\x04\0\0\0\0\0\0\0\0\0\0\0",
+    );
+    example(
+        b"unknown code, cut payload",
+        b"BLENDER-v280\
+        USER\x04\0\0\0\x10\0\0\0\0\0\0\0\x03\0\0\0\x01\0\0\0hul",
+    );
+    example(
+        b"unknown code, whole payload",
+        b"BLENDER-v280\
+        USER\x04\0\0\0\x10\0\0\0\0\0\0\0\x03\0\0\0\x01\0\0\0hull",
+    );
+}
+
+// The search, over a table of 512 rows of which so many are filled.
+fn pointers(table: &[u64], rows: usize) {
+    pointer_line(table, rows, 0);
+    pointer_line(table, rows, 32);
+    pointer_line(table, rows, 64);
+    pointer_line(table, rows, 16);
+    pointer_line(table, rows, 48);
+    pointer_line(table, 1, 32);
+    pointer_line(table, 512, FILL);
+    pointer_line(table, 513, 32);
+    pointer_line(table, 513, 0);
+}
+
+fn codes() {
+    code_line(0x5245_4e44);
+    code_line(0x5445_5354);
+    code_line(0x454e_4442);
+    code_line(0x4f42_0001);
+    code_line(0x1_4f42_0000);
+}
+
+// A GLOB, an OB and a DATA, the last two with one address.
+fn addresses(file: &[u8]) {
+    let mut table = [FILL; 3584];
+    text(b"equal addresses\n");
+    let rows = report(file, &mut table);
+    pointers(&table, rows);
+    codes();
+}
+
+fn addresses_file() {
+    addresses(
+        b"BLENDER-v280\
+        GLOB\x04\0\0\0\x10\0\0\0\0\0\0\0\x03\0\0\0\x01\0\0\0glob\
+        OB\0\0\x04\0\0\0\x20\0\0\0\0\0\0\0\x04\0\0\0\x01\0\0\0hull\
+        DATA\x08\0\0\0\x20\0\0\0\0\0\0\0\x05\0\0\0\x02\0\0\0ENDBdeck\
+        DNA1\x34\0\0\0\x30\0\0\0\0\0\0\0\0\0\0\0\x01\0\0\0\
+        SDNANAME\x01\0\0\0x\0\0\0TYPE\x01\0\0\0int\0TLEN\x04\0\0\0STRC\x01\0\0\0\0\0\x01\0\0\0\0\0\
+        ENDB",
+    );
+}
+
+fn sample(path: &[u8]) {
+    let file = os::open_read(path);
+    if file < 0 {
+        os::fail(path);
+        return;
+    }
+    let mut buffer = [0u8; 131072];
+    let n = io::read_full(file, &mut buffer);
+    libc::close(file);
+    example(path, &buffer[..n]);
+}
+
+fn main() {
+    hull_file();
+    headers();
+    code_of_zeros();
+    faults();
+    addresses_file();
+    sample(b"lamp.blend");
+    sample(b"lamp_legacy32big.blend");
+    sample(b"lamp_legacy32little.blend");
+    sample(b"lamp_legacy64big.blend");
+    sample(b"lamp_legacy64little.blend");
+    sample(b"lamp_new32big.blend");
+    sample(b"lamp_new32little.blend");
+    sample(b"lamp_new64big.blend");
+    sample(b"lamp_new64little.blend");
+}
