@@ -57,6 +57,25 @@ module _ (s t : List ℕ) (row : ℕ) where
         go true e = held _ _ e ∙ rw (a, b) refl ∙ sym (held _ _ (by-room ∙ e))
         go false e = failed _ _ e ∙ sym (failed _ _ (by-room ∙ e))
 
+-- a search of n rows that has come to a row: one turn more, and none
+module _ (p : ℕ → Bool) (n row : ℕ) where
+  pub seek-turn : row < n → seek p (n - row) row ≡ (elim (p row) as (λ (b : Bool). Paper) [ true ↦ found row | false ↦ seek p (n - (row + 1)) (row + 1) ])
+  unfolding seek
+  seek-turn h =
+      let k : n - row ≡ suc (n - (row + 1)) = omega arith in
+      ap (λ (m : ℕ). seek p m row) k
+
+  pub seek-over : n ≤ row → seek p (n - row) row ≡ missing
+  unfolding seek
+  seek-over h =
+      let k : n - row ≡ 0 = omega arith in
+      ap (λ (m : ℕ). seek p m row) k
+
+pub seek-starts : (p : ℕ → Bool) (n : ℕ) → seek p (n - 0) 0 ≡ seek p n 0
+seek-starts p n =
+    let k : n - 0 ≡ n = omega arith in
+    ap (λ (m : ℕ). seek p m 0) k
+
 -- the search, a row a turn
 module _ (t : List ℕ) (rows address : ℕ) where
   pub at-row : ℕ → Bool
@@ -73,9 +92,7 @@ module _ (t : List ℕ) (rows address : ℕ) where
 
     pub lookup-starts : (address ≡ 0 → ⊥) → lookupAs t rows address ≡ seek at-row (rows - 0) 0
     unfolding lookupAs at-row
-    lookup-starts e =
-        let k : rows ≡ rows - 0 = omega arith in
-        failed _ _ (le-ltb _ _ h) ∙ failed _ _ (ne-eqb _ _ e) ∙ ap (λ (n : ℕ). seek at-row n 0) k
+    lookup-starts e = failed _ _ (le-ltb _ _ h) ∙ failed _ _ (ne-eqb _ _ e) ∙ sym (seek-starts at-row rows)
 
   -- what is left of the search from a row on
   module _ (row : ℕ) (w : lookupAs t rows address ≡ seek at-row (rows - row) row) where
@@ -85,10 +102,8 @@ module _ (t : List ℕ) (rows address : ℕ) where
       here = sym (e ∙ rw (f, g) refl)
 
       next-row : seek at-row (rows - row) row ≡ (elim b as (λ (x : Bool). Paper) [ true ↦ found row | false ↦ seek at-row (rows - (row + 1)) (row + 1) ])
-      unfolding seek
       next-row =
-          let k : rows - row ≡ suc (rows - (row + 1)) = omega arith in
-          ap (λ (n : ℕ). seek at-row n row) k ∙ ap (λ (x : Bool). elim x as (λ (y : Bool). Paper) [ true ↦ found row | false ↦ seek at-row (rows - (row + 1)) (row + 1) ]) here
+          seek-turn at-row rows row l ∙ ap (λ (x : Bool). elim x as (λ (y : Bool). Paper) [ true ↦ found row | false ↦ seek at-row (rows - (row + 1)) (row + 1) ]) here
 
       pub lookup-found : b ≡ true → found row ≡ lookupAs t rows address
       lookup-found u = sym (w ∙ next-row ∙ held _ _ u)
@@ -97,7 +112,4 @@ module _ (t : List ℕ) (rows address : ℕ) where
       lookup-on u = w ∙ next-row ∙ failed _ _ u
 
     pub lookup-missing : rows ≤ row → missing ≡ lookupAs t rows address
-    unfolding seek
-    lookup-missing l =
-        let k : rows - row ≡ 0 = omega arith in
-        sym (w ∙ ap (λ (n : ℕ). seek at-row n row) k)
+    lookup-missing l = sym (w ∙ seek-over at-row rows row l)

@@ -79,8 +79,8 @@ fn is_found(kind: Kind) -> bool
     }
 }
 
-// Whether a row with this code and this address is the one that is looked for.
-fn matches(wanted: u64, code: u64, address: u64) -> bool
+// Whether a row with this code and this address answers the search.
+pub fn matches(wanted: u64, code: u64, address: u64) -> bool
     ensures { λ r. ⌜ r ≡ addresses.matches wanted code address ⌝ }
 {
     if is_found(Kind::of_code(code)) {

@@ -17,6 +17,8 @@ use blend::runtime::view_part;
 use blend::walker::Place;
 use blend::walker::Step;
 use dna::dna::DnaCounts;
+use held::find_in;
+use held::step_from;
 use libc::STDOUT_FILENO;
 use primitive::Endianness;
 use primitive::PointerSize;
@@ -149,15 +151,20 @@ fn view_of(file: &[u8], table: &[u64], row: usize) {
     number(b" sum ", sum(part));
 }
 
-fn pointer_to(table: &[u64], rows: usize, address: u64) {
+// An address that was looked for among so many rows, and the answer.
+fn pointer(rows: usize, address: u64, found: Pointer) {
     number(b"address ", address);
     number(b" in ", rows as u64);
-    match get_ptr(table, rows, address) {
+    match found {
         Pointer::Null => text(b" null"),
         Pointer::Block(row) => number(b" row ", row as u64),
         Pointer::Missing => text(b" missing"),
         Pointer::NotThere => text(b" refused 13"),
     }
+}
+
+fn pointer_to(table: &[u64], rows: usize, address: u64) {
+    pointer(rows, address, get_ptr(table, rows, address));
 }
 
 fn code_of(n: u64) {
@@ -320,10 +327,10 @@ fn walk(file: &[u8], table: &[u64]) -> Walked {
     }
 }
 
-// A step's answer, and the place that it hands back.
-fn step_from(label: &[u8], place: Place, file: &[u8]) -> Place {
+// A step's answer, and the place that it hands back, by a walker that holds the file.
+fn step_line(label: &[u8], place: Place, file: &[u8]) -> Place {
     text(label);
-    match place.step(file) {
+    match step_from(file, place) {
         Step::Block(r, next) => {
             number(b"block at ", r.at);
             next
@@ -357,9 +364,9 @@ fn walk_line(file: &[u8], table: &[u64]) {
     } else {
         text(b" not as in the table");
     }
-    let last = step_from(b", then ", place, file);
-    step_from(b", again ", last, file);
-    step_from(b", past the end ", past(), file);
+    let last = step_line(b", then ", place, file);
+    step_line(b", again ", last, file);
+    step_line(b", past the end ", past(), file);
     text(b"\n");
 }
 
@@ -486,6 +493,41 @@ fn pointers(table: &[u64], rows: usize) {
     pointer_line(table, 513, 0);
 }
 
+fn row_of(table: &[u64], row: usize) -> Row {
+    Row {
+        code: cell(table, row, 0),
+        address: cell(table, row, 1),
+        index: cell(table, row, 2),
+        count: cell(table, row, 3),
+        at: cell(table, row, 4),
+        payload: cell(table, row, 5),
+        len: cell(table, row, 6),
+    }
+}
+
+fn record_line(rows: [Row; 4], n: usize, address: u64) {
+    text(b"records ");
+    pointer(n, address, find_in(rows, n, address));
+    text(b"\n");
+}
+
+// The search again, over the first four rows as records.
+fn records(table: &[u64]) {
+    let a = row_of(table, 0);
+    let b = row_of(table, 1);
+    let c = row_of(table, 2);
+    let d = row_of(table, 3);
+    let rows = [a, b, c, d];
+    record_line(rows, 4, 0);
+    record_line(rows, 4, 32);
+    record_line(rows, 4, 64);
+    record_line(rows, 4, 16);
+    record_line(rows, 4, 48);
+    record_line(rows, 1, 32);
+    record_line(rows, 5, 32);
+    record_line(rows, 5, 0);
+}
+
 fn codes() {
     code_line(0x5245_4e44);
     code_line(0x5445_5354);
@@ -500,6 +542,7 @@ fn addresses(file: &[u8]) {
     text(b"equal addresses\n");
     let rows = report(file, &mut table);
     pointers(&table, rows);
+    records(&table);
     codes();
 }
 

@@ -1,0 +1,2 @@
+-- The rules of the forms that hold references.
+pub mod Held

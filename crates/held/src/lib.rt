@@ -1,0 +1,91 @@
+// Two calls of the reader in forms that hold references: a walker that holds the file's slice, and the search for an address in a lent list of
+// row records. Each is thin: what matters is in the crate `blend`, on plain parameters.
+use blend::Row;
+use blend::runtime::Pointer;
+use blend::runtime::matches;
+use blend::walker::Place;
+use blend::walker::Step;
+ghost use mathlib.Core.Path.{_≡_};
+ghost use Rattle.blend.specs.Addresses.{paperPointer};
+ghost use Rattle.blend.specs.Walker.{start};
+ghost use Rattle.held.specs.Held.{Stepped, rowIs, lookupRows};
+
+pub struct Walker<'a> {
+    pub file: &'a [u8],
+    pub place: Place,
+}
+
+// The step on plain parameters.
+pub fn step_at(file: &[u8], place: Place) -> Step
+    ensures { λ r. ⌜ Stepped (now (file .entry)) place r ⌝ }
+{
+    place.step(file)
+}
+
+// A walker at the start of a file.
+pub fn over<'a>(file: &'a [u8]) -> Walker<'a>
+    ensures { λ r. ⌜ (r .file ≡ file .entry) × (r .place ≡ start) ⌝ }
+{
+    Walker {
+        file,
+        place: Place { at: 0, dna: false },
+    }
+}
+
+// A step from where the walker stands.
+pub fn next<'a>(w: Walker<'a>) -> Step
+    ensures { λ r. ⌜ Stepped (now (w .entry .file)) (w .entry .place) r ⌝ }
+{
+    step_at(w.file, w.place)
+}
+
+// The walker at another place.
+pub fn moved<'a>(w: Walker<'a>, place: Place) -> Walker<'a>
+    ensures { λ r. ⌜ (r .file ≡ w .entry .file) × (r .place ≡ place) ⌝ }
+{
+    Walker {
+        file: w.file,
+        place,
+    }
+}
+
+// The step of a walker over a file at a place: plain parameters, for callers that hold no walker.
+pub fn step_from(file: &[u8], place: Place) -> Step
+    ensures { λ r. ⌜ Stepped (now (file .entry)) place r ⌝ }
+{
+    next(moved(over(file), place))
+}
+
+// Whether a row is one that the address leads to.
+pub fn row_is(row: Row, address: u64) -> bool
+    ensures { λ r. ⌜ r ≡ rowIs address row ⌝ }
+{
+    matches(address, row.code, row.address)
+}
+
+// The first of the first n rows that the address leads to.
+pub fn find_row(rows: &[Row], n: usize, address: u64) -> Pointer
+    ensures { λ r. ⌜ paperPointer r ≡ lookupRows (now (rows .entry)) n address ⌝ }
+{
+    if rows.len() < n {
+        return Pointer::NotThere;
+    }
+    if address == 0 {
+        return Pointer::Null;
+    }
+    let mut i = 0;
+    while i < n {
+        if row_is(rows[i], address) {
+            return Pointer::Block(i);
+        }
+        i += 1;
+    }
+    Pointer::Missing
+}
+
+// The same for four rows by value: the one function here that lends them, for callers that hold no slice of rows.
+pub fn find_in(rows: [Row; 4], n: usize, address: u64) -> Pointer
+    ensures { λ r. ⌜ paperPointer r ≡ lookupRows rows n address ⌝ }
+{
+    find_row(&rows, n, address)
+}
