@@ -81,9 +81,6 @@ module _ (h : Header) (s : List ℕ) (from rows : ℕ) (n : DnaCounts) (end : �
 
 -- the header first
 module _ (s : List ℕ) where
-  found : Outcome Header
-  found = valued (run headerBytes s 0)
-
   pub valued-read : (o : Outcome HeaderBytes) (h : Header) (at : ℕ) → valued o ≡ read h at → (b : HeaderBytes) × (o ≡ read b at)
   valued-read (read b m) h at e =
       let q : m ≡ at = cc in

@@ -26,7 +26,7 @@ use Rattle.blend.specs.declared.Row.{Row}
 use Rattle.blend.specs.declared.blend.Last.{Last}
 use Rattle.blend.specs.declared.blend.Boundary.{Boundary}
 use Rattle.blend.specs.declared.blend.Chained.{Chained}
-use Rattle.blend.specs.Blocks.{blockHeaderLength, kindOf, isDna, rowAt, payloadOf, catalogued, finished, finish, boundaryOf}
+use Rattle.blend.specs.Blocks.{blockHeaderLength, kindOf, isDna, rowAt, payloadOf, catalogued, finished, onRow, boundaryOf}
 use Rattle.blend.specs.Chain.{Chain, ended, link, chain, chainFrom, rowNumbers, rowTable}
 use Rattle.blend.specs.Helpers.{summed, summedAs, rowsFrom}
 use Rattle.blend.proofs.Layouts.{block-header-stops}
@@ -52,7 +52,7 @@ module _ (h : Header) (s : List ℕ) (at : ℕ) (r : Row) (l : Last) (next : ℕ
   unfolding boundaryOf
   block-row e = go (stands s at (ascii "ENDB")) refl
     where
-      by : (o : Outcome Row) → rowAt h s at ≡ o → finish h s o ≡ Boundary.Block r l next → o ≡ read r next
+      by : (o : Outcome Row) → rowAt h s at ≡ o → onRow h s o ≡ Boundary.Block r l next → o ≡ read r next
       by (read q n) u g =
           let w = finished-row q n g in
           rw (w .0, w .1) refl
@@ -174,7 +174,7 @@ pub mark-room : (h : Header) (s : List ℕ) (at : ℕ) → boundaryOf h s at ≡
 unfolding boundaryOf finished
 mark-room h s at e = go (stands s at (ascii "ENDB")) refl
   where
-    by : (o : Outcome Row) → finish h s o ≡ Boundary.EndMark → at + 4 ≤ length s
+    by : (o : Outcome Row) → onRow h s o ≡ Boundary.EndMark → at + 4 ≤ length s
     by (read r n) g = no (isDna (kindOf (r .code))) refl
       where
         some : (o : Outcome Dna) → catalogued r n o ≡ Boundary.EndMark → at + 4 ≤ length s

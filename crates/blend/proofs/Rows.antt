@@ -28,7 +28,7 @@ use Rattle.blend.specs.declared.Kind.{Kind}
 use Rattle.blend.specs.declared.blend.Last.{Last}
 use Rattle.blend.specs.declared.blend.Boundary.{Boundary}
 use Rattle.blend.specs.declared.blend.Taking.{Taking}
-use Rattle.blend.specs.Blocks.{blockHeaderLength, blockHeader, kindOf, taken, block, rowOf, rowed, rowAt, payloadOf, within, catalogued, isDna, finished, finish, boundaryOf}
+use Rattle.blend.specs.Blocks.{blockHeaderLength, blockHeader, kindOf, taken, block, rowOf, rowed, rowAt, payloadOf, within, catalogued, isDna, finished, onRow, boundaryOf}
 use Rattle.blend.specs.Helpers.{taking}
 use Rattle.blend.proofs.Layouts.{block-header-moves}
 
@@ -201,12 +201,12 @@ module _ (h : Header) (s : List ℕ) (at : ℕ) where
   end-mark t = sym (held _ _ t)
 
   module _ (t : stands s at (ascii "ENDB") ≡ false) where
-    on-block : boundaryOf h s at ≡ finish h s (rowAt h s at)
+    on-block : boundaryOf h s at ≡ onRow h s (rowAt h s at)
     unfolding boundaryOf
     on-block = failed _ _ t
 
     pub boundary-stops : (x : Fault) → fault x ≡ rowAt h s at → Boundary.Stopped x ≡ boundaryOf h s at
-    boundary-stops x g = sym (on-block ∙ ap (finish h s) (sym g))
+    boundary-stops x g = sym (on-block ∙ ap (onRow h s) (sym g))
 
     pub boundary-block : (r : Row) (next : ℕ) → read r next ≡ rowAt h s at → finished h s r next ≡ boundaryOf h s at
-    boundary-block r next g = sym (on-block ∙ ap (finish h s) (sym g))
+    boundary-block r next g = sym (on-block ∙ ap (onRow h s) (sym g))

@@ -17,6 +17,7 @@ use Rattle.primitive.specs.PointerSize.{pointerBytes}
 use Rattle.primitive.specs.Reader.{Reader, Outcome, run, then, stands}
 use Rattle.primitive.specs.Reader.Reader.{done, refuse, skip}
 use Rattle.primitive.specs.Reader.Outcome.{read, fault}
+use Rattle.primitive.specs.Refusals.{invalidMemoryAddress, unsupportedCountOnPrincipalBlock, unknownBlockCode}
 use Rattle.dna.specs.Catalogue.{Dna, catalogue, counts}
 use Rattle.blend.specs.declared.FileFormat.{FileFormat}
 use Rattle.blend.specs.declared.FileFormat.the-variants.{Legacy, New}
@@ -67,7 +68,7 @@ tell count n b = record { code = b .code; size = b .size; address = b .address; 
 -- address not 0 (3), for every code
 abbrev pub tested : {A : Type 0} → Field → ℕ → Reader A → Reader A
 tested size n r = r
-tested address n r = elim (eqb n 0) [ true ↦ refuse 3 | false ↦ r ]
+tested address n r = elim (eqb n 0) [ true ↦ refuse invalidMemoryAddress | false ↦ r ]
 tested index n r = r
 tested count n r = r
 
@@ -114,8 +115,8 @@ taken Kind.Test n = done tt
 taken Kind.Global n = done tt
 taken Kind.Subsidiary n = done tt
 taken Kind.Dna n = done tt
-taken Kind.Principal n = elim (eqb n 1) [ true ↦ done tt | false ↦ refuse 4 ]
-taken Kind.Unknown n = refuse 5
+taken Kind.Principal n = elim (eqb n 1) [ true ↦ done tt | false ↦ refuse unsupportedCountOnPrincipalBlock ]
+taken Kind.Unknown n = refuse unknownBlockCode
 
 -- Order of checks: the header, then a payload of `size` bytes, which is not looked at, then the code. A DNA1's catalogue comes after that, in `finished`.
 unfoldable pub block : Header → Reader BlockHeader
@@ -165,11 +166,11 @@ finished h s r next =
       | false ↦ Boundary.Block r Last.Other next
     ]
 
-abbrev pub finish : Header → List ℕ → Outcome Row → Boundary
-finish h s (read r next) = finished h s r next
-finish h s (fault f) = Boundary.Stopped f
+abbrev pub onRow : Header → List ℕ → Outcome Row → Boundary
+onRow h s (read r next) = finished h s r next
+onRow h s (fault f) = Boundary.Stopped f
 
 -- At each boundary: if the next 4 bytes are "ENDB", reading ends there. Otherwise a block is read: its row; whether it is a DNA1, and then its
 -- counts; and the next boundary.
 unfoldable pub boundaryOf : Header → List ℕ → ℕ → Boundary
-boundaryOf h s at = elim (stands s at (ascii "ENDB")) [ true ↦ Boundary.EndMark | false ↦ finish h s (rowAt h s at) ]
+boundaryOf h s at = elim (stands s at (ascii "ENDB")) [ true ↦ Boundary.EndMark | false ↦ onRow h s (rowAt h s at) ]

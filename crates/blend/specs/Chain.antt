@@ -9,7 +9,7 @@ use Rattle.primitive.specs.Paper.{Paper}
 use Rattle.primitive.specs.Paper.Paper.{accepts, refuses}
 use Rattle.primitive.specs.Reader.{Reader, Outcome, run}
 use Rattle.primitive.specs.Reader.Outcome.{read, fault}
-use Rattle.primitive.specs.Refusals.{blockTableTooShort, paperFault}
+use Rattle.primitive.specs.Refusals.{noDnaBlockFound, blockTableTooShort, paperFault}
 use Rattle.primitive.specs.Tables.{written}
 use Rattle.dna.specs.declared.dna.DnaCounts.{DnaCounts}
 use Rattle.blend.specs.declared.Header.{Header}
@@ -27,7 +27,7 @@ pub record Chain : Type 0 where
 
 -- At the end the last block must be DNA1, else 6; no blocks at all is also 6.
 abbrev pub ended : Last → ℕ → Outcome DnaCounts
-ended Last.Other next = fault (Refusal 6)
+ended Last.Other next = fault (Refusal noDnaBlockFound)
 ended (Last.Dna n) next = read n next
 
 abbrev pub link : Boundary → Last → ℕ → (ℕ → Last → Chain) → Chain

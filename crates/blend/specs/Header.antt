@@ -15,7 +15,7 @@ use Rattle.primitive.specs.PointerSize.{pointerBytes}
 use Rattle.primitive.specs.Reader.{Reader, Outcome}
 use Rattle.primitive.specs.Reader.Reader.{done, refuse, bytes, begins}
 use Rattle.primitive.specs.Reader.Outcome.{read, fault}
-use Rattle.primitive.specs.Refusals.{paperFault}
+use Rattle.primitive.specs.Refusals.{compressedFileNotSupported, paperFault}
 use Rattle.dna.specs.Declarators.{isDigit}
 use Rattle.blend.specs.declared.FileFormat.{FileFormat}
 use Rattle.blend.specs.declared.FileFormat.the-variants.{Legacy, New}
@@ -74,7 +74,7 @@ new =
 -- The first 7 bytes are "BLENDER", else refusal 1 (also when fewer are there). If the next byte is `_` or `-` the file is Legacy, otherwise New.
 unfoldable pub headerBytes : Reader HeaderBytes
 unfolding legacy new
-headerBytes = begins (ascii "BLENDER") (begins (ascii "_") (legacy Bits32) (begins (ascii "-") (legacy Bits64) new)) (refuse 1)
+headerBytes = begins (ascii "BLENDER") (begins (ascii "_") (legacy Bits32) (begins (ascii "-") (legacy Bits64) new)) (refuse compressedFileNotSupported)
 
 -- the value that is made of a header's bytes, and of what the tree found
 abbrev pub headerOf : HeaderBytes → Header

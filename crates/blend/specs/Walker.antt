@@ -35,7 +35,7 @@ lastIsDna (Last.Dna n) = true
 -- the end: the offset after the end mark, or 6 where the last block was no DNA1
 abbrev pub endMark : Bool → ℕ → Paper
 endMark true next = accepts 1 (next ∷ [])
-endMark false next = noDnaBlockFound
+endMark false next = refuses noDnaBlockFound []
 
 -- what is at a boundary; `p` is the place that was asked, `b` the boundary that it stands for
 abbrev pub stepOver : Place → Place → Boundary → Walked

@@ -510,8 +510,8 @@ fn count_blocks(s: &[u8], h: Header, from: usize) -> Chained
 
 // Stores a row's seven numbers from a place on, and answers the place after them.
 fn put_row(table: &mut [u64], i: usize, r: Row) -> usize
-    requires { ⌜ i + 7 ≤ length (now table) ⌝ }
-    ensures { λ n. ⌜ n ≡ i + 7 ⌝ }
+    requires { ⌜ i + chains.perRow ≤ length (now table) ⌝ }
+    ensures { λ n. ⌜ n ≡ i + chains.perRow ⌝ }
     ensures { λ _. ⌜ now (table .exit) ≡ put (now (table .entry)) i (chains.rowNumbers r) ⌝ }
 {
     table[i] = r.code;
@@ -565,7 +565,7 @@ pub enum BlendAnswer {
 // The blocks after a header that was read and ends at from.
 fn read_after(file: &[u8], h: Header, from: usize, table: &mut [u64]) -> BlendAnswer
     requires { ⌜ from ≤ length (now file) ⌝ }
-    ensures { λ r. ⌜ chains.paperBlend r ≡ chains.answerFor h (length (chains.chainFrom h (now (file .entry)) from .rows)) (length (now (table .entry)) / 7) (chains.chainFrom h (now (file .entry)) from .last) ⌝ }
+    ensures { λ r. ⌜ chains.paperBlend r ≡ chains.answerFor h (length (chains.chainFrom h (now (file .entry)) from .rows)) (length (now (table .entry)) / chains.perRow) (chains.chainFrom h (now (file .entry)) from .last) ⌝ }
     ensures { λ r. ⌜ now (table .exit) ≡ written (chains.paperBlend r) (chains.rowTable (chains.chainFrom h (now (file .entry)) from .rows)) (now (table .entry)) ⌝ }
 {
     match count_blocks(file, h, from) {
@@ -587,7 +587,7 @@ fn read_after(file: &[u8], h: Header, from: usize, table: &mut [u64]) -> BlendAn
 
 // Reads a file into a row table.
 pub fn blend(file: &[u8], table: &mut [u64]) -> BlendAnswer
-    ensures { λ r. ⌜ chains.paperBlend r ≡ chains.readAs (chains.fileBy headers.headerBytes (now (file .entry))) (length (now (table .entry)) / 7) ⌝ }
+    ensures { λ r. ⌜ chains.paperBlend r ≡ chains.readAs (chains.fileBy headers.headerBytes (now (file .entry))) (length (now (table .entry)) / chains.perRow) ⌝ }
     ensures { λ _. ⌜ now (table .exit) ≡ chains.tableAfter (chains.fileBy headers.headerBytes (now (file .entry))) (now (table .entry)) ⌝ }
 {
     let answer = header(file);

@@ -7,6 +7,7 @@ use primitive::cursor::Moved;
 ghost use mathlib.Core.Path.{_≡_};
 ghost use Prim.Native.Nat.{_/_, _<_};
 ghost use lib.ListN.{length};
+ghost use Rattle.blend.specs.Chain.{perRow};
 ghost use Rattle.blend.specs.Views as views;
 ghost use Rattle.blend.specs.Addresses as addresses;
 
@@ -18,7 +19,7 @@ pub enum ViewAnswer {
 
 // One of a row's seven numbers.
 fn cell(table: &[u64], row: usize, i: usize) -> u64
-    requires { ⌜ (row < length (now table) / 7) × (i < 7) ⌝ }
+    requires { ⌜ (row < length (now table) / perRow) × (i < perRow) ⌝ }
     ensures { λ r. ⌜ r ≡ views.cell (now (table .entry)) row i ⌝ }
 {
     table[row * Row::NUMBERS + i]

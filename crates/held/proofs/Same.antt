@@ -15,7 +15,7 @@ use Rattle.blend.specs.Addresses.{matches, null, found, seek, lookupAs}
 use Rattle.blend.specs.Chain.{rowNumbers, rowTable}
 use Rattle.blend.specs.Views.{cell}
 use Rattle.blend.proofs.Chains.{table-length}
-use Rattle.held.specs.Held.{none, rowIs, lookupRows, rowOf, rowsOf, spelt}
+use Rattle.held.specs.Held.{none, rowIs, lookupRows, rowSpelt, rowsSpelt, spelt}
 
 -- a search is the same by two tests that agree on the rows that are searched
 seek-same : (p q : ℕ → Bool) (n row : ℕ) → ((i : ℕ) → row ≤ i → i < row + n → p i ≡ q i) → seek p n row ≡ seek q n row
@@ -28,20 +28,20 @@ seek-same p q (suc n) row h =
     ∙ ap (λ (x : Paper). elim (q row) as (λ (c : Bool). Paper) [ true ↦ found row | false ↦ x ]) r
 
 -- how many rows a table spells, and which
-rows-many : (t : List ℕ) (n row : ℕ) → length (rowsOf t n row) ≡ n
-unfolding rowsOf
+rows-many : (t : List ℕ) (n row : ℕ) → length (rowsSpelt t n row) ≡ n
+unfolding rowsSpelt
 rows-many t zero row = refl
 rows-many t (suc n) row = ap suc (rows-many t n (row + 1))
 
-row-at : (t : List ℕ) (n row i : ℕ) → i < n → getD (rowsOf t n row) i none ≡ rowOf t (row + i)
-unfolding rowsOf
+row-at : (t : List ℕ) (n row i : ℕ) → i < n → getD (rowsSpelt t n row) i none ≡ rowSpelt t (row + i)
+unfolding rowsSpelt
 row-at t zero row i h = absurd (omega arith)
 row-at t (suc n) row zero h =
     let e : row ≡ row + 0 = omega arith in
-    ap (rowOf t) e
+    ap (rowSpelt t) e
 row-at t (suc n) row (suc i) h =
     let e : row + 1 + i ≡ row + suc i = omega arith in
-    row-at t n (row + 1) i (omega arith) ∙ ap (rowOf t) e
+    row-at t n (row + 1) i (omega arith) ∙ ap (rowSpelt t) e
 
 module _ (t : List ℕ) (n address : ℕ) where
   many : length (spelt t) ≡ length t / 7
@@ -52,7 +52,7 @@ module _ (t : List ℕ) (n address : ℕ) where
   unfolding spelt
   test i h =
       let e : 0 + i ≡ i = omega arith in
-      ap (rowIs address) (row-at t (length t / 7) 0 i h ∙ ap (rowOf t) e)
+      ap (rowIs address) (row-at t (length t / 7) 0 i h ∙ ap (rowSpelt t) e)
 
   pub same : lookupRows (spelt t) n address ≡ lookupAs t n address
   unfolding lookupAs
@@ -77,13 +77,13 @@ cell-on r t row k =
     let e : (row + 1) * 7 + k ≡ suc (suc (suc (suc (suc (suc (suc (row * 7 + k))))))) = omega arith in
     ap (λ (i : ℕ). getD (rowNumbers r ++ t) i 0) e
 
-rows-on : (r : Row) (t : List ℕ) (n row : ℕ) → rowsOf (rowNumbers r ++ t) n (row + 1) ≡ rowsOf t n row
-unfolding rowsOf
+rows-on : (r : Row) (t : List ℕ) (n row : ℕ) → rowsSpelt (rowNumbers r ++ t) n (row + 1) ≡ rowsSpelt t n row
+unfolding rowsSpelt
 rows-on r t zero row = refl
 rows-on r t (suc n) row = rw (cell-on r t row 0, cell-on r t row 1, cell-on r t row 2, cell-on r t row 3, cell-on r t row 4, cell-on r t row 5, cell-on r t row 6, rows-on r t n (row + 1)) refl
 
-all-rows : (rs : List Row) → rowsOf (rowTable rs) (length rs) 0 ≡ rs
-unfolding rowsOf rowTable
+all-rows : (rs : List Row) → rowsSpelt (rowTable rs) (length rs) 0 ≡ rs
+unfolding rowsSpelt rowTable
 all-rows [] = refl
 all-rows (r ∷ rs) = ap (λ (l : List Row). r ∷ l) (rows-on r (rowTable rs) (length rs) 0 ∙ all-rows rs)
 
@@ -91,7 +91,7 @@ pub spells : (rs : List Row) → spelt (rowTable rs) ≡ rs
 unfolding spelt
 spells rs =
     let e : length (rowTable rs) / 7 ≡ length rs = omega (arith, table-length rs) in
-    ap (λ (n : ℕ). rowsOf (rowTable rs) n 0) e ∙ all-rows rs
+    ap (λ (n : ℕ). rowsSpelt (rowTable rs) n 0) e ∙ all-rows rs
 
 pub same-rows : (rs : List Row) (n address : ℕ) → lookupRows rs n address ≡ lookupAs (rowTable rs) n address
 same-rows rs n address = ap (λ (l : List Row). lookupRows l n address) (sym (spells rs)) ∙ same (rowTable rs) n address

@@ -37,8 +37,8 @@ lookupRows rs n address =
     ]
 
 -- the rows that a table of numbers spells: as many as it has room for, each from its seven numbers
-abbrev pub rowOf : List ℕ → ℕ → Row
-rowOf t row =
+abbrev pub rowSpelt : List ℕ → ℕ → Row
+rowSpelt t row =
     record {
       code = cell t row 0;
       address = cell t row 1;
@@ -49,10 +49,10 @@ rowOf t row =
       len = cell t row 6;
     }
 
-unfoldable pub rowsOf : List ℕ → (n row : ℕ) → List Row
-rowsOf t zero row = []
-rowsOf t (suc n) row = rowOf t row ∷ rowsOf t n (row + 1)
+unfoldable pub rowsSpelt : List ℕ → (n row : ℕ) → List Row
+rowsSpelt t zero row = []
+rowsSpelt t (suc n) row = rowSpelt t row ∷ rowsSpelt t n (row + 1)
 
 unfoldable pub spelt : List ℕ → List Row
-unfolding rowsOf
-spelt t = rowsOf t (length t / perRow) 0
+unfolding rowsSpelt
+spelt t = rowsSpelt t (length t / perRow) 0

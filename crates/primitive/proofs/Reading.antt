@@ -59,27 +59,13 @@ module _ {r : Bool} (s : List ℕ) (at n : ℕ) (e : r ≡ room s at n) where
   tight t = leb-false _ _ (sym e ∙ t)
 
 -- What one read does, from plain facts of numbers: what the proofs of code cite.
-pub bytes-in : {A : Type 0} (n : ℕ) (k : List ℕ → Reader A) (s : List ℕ) (at : ℕ) → at + n ≤ length s
-    → run (bytes n k) s at ≡ run (k (take n (drop at s))) s (at + n)
-unfolding run
-bytes-in n k s at h = held _ _ (le-leb _ _ h)
-
 pub bytes-out : {A : Type 0} (n : ℕ) (k : List ℕ → Reader A) (s : List ℕ) (at : ℕ) → length s < at + n → run (bytes n k) s at ≡ fault (Cut at)
 unfolding run
 bytes-out n k s at h = failed _ _ (lt-leb _ _ h)
 
-pub skip-in : {A : Type 0} (n : ℕ) (r : Reader A) (s : List ℕ) (at : ℕ) → at + n ≤ length s → run (skip n r) s at ≡ run r s (at + n)
-unfolding run
-skip-in n r s at h = held _ _ (le-leb _ _ h)
-
 pub skip-out : {A : Type 0} (n : ℕ) (r : Reader A) (s : List ℕ) (at : ℕ) → length s < at + n → run (skip n r) s at ≡ fault (Cut at)
 unfolding run
 skip-out n r s at h = failed _ _ (lt-leb _ _ h)
-
-pub string-in : {A : Type 0} (k : ℕ → Reader A) (s : List ℕ) (at : ℕ) → at + toZero (drop at s) < length s
-    → run (string k) s at ≡ run (k (toZero (drop at s))) s (at + (toZero (drop at s) + 1))
-unfolding run
-string-in k s at h = held _ _ (lt-ltb _ _ h)
 
 pub string-out : {A : Type 0} (k : ℕ → Reader A) (s : List ℕ) (at : ℕ) → length s ≤ at + toZero (drop at s) → run (string k) s at ≡ fault (Cut at)
 unfolding run

@@ -6,23 +6,24 @@ use Rattle.primitive.specs.declared.Fault.the-variants.{Cut, Mark, Refus
 use Rattle.primitive.specs.Paper.{Paper}
 use Rattle.primitive.specs.Paper.Paper.{refuses}
 
-abbrev pub compressedFileNotSupported : Paper
-compressedFileNotSupported = refuses 1 []
+-- Those that a reading tree gives are numbers here: a tree says `refuse unknownBlockCode`, and `paperFault` tells it.
+abbrev pub compressedFileNotSupported : ℕ
+compressedFileNotSupported = 1
 
 abbrev pub malformed : Paper
 malformed = refuses 2 []
 
-abbrev pub invalidMemoryAddress : Paper
-invalidMemoryAddress = refuses 3 []
+abbrev pub invalidMemoryAddress : ℕ
+invalidMemoryAddress = 3
 
-abbrev pub unsupportedCountOnPrincipalBlock : Paper
-unsupportedCountOnPrincipalBlock = refuses 4 []
+abbrev pub unsupportedCountOnPrincipalBlock : ℕ
+unsupportedCountOnPrincipalBlock = 4
 
-abbrev pub unknownBlockCode : Paper
-unknownBlockCode = refuses 5 []
+abbrev pub unknownBlockCode : ℕ
+unknownBlockCode = 5
 
-abbrev pub noDnaBlockFound : Paper
-noDnaBlockFound = refuses 6 []
+abbrev pub noDnaBlockFound : ℕ
+noDnaBlockFound = 6
 
 -- the rows needed
 abbrev pub blockTableTooShort : ℕ → Paper
