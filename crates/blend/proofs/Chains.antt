@@ -12,7 +12,6 @@ use Rattle.primitive.specs.declared.PointerSize.{PointerSize}
 use Rattle.primitive.specs.declared.PointerSize.the-variants.{Bits32, Bits64}
 use Rattle.primitive.specs.Ascii.{ascii}
 use Rattle.primitive.specs.Helpers.{goOn}
-use Rattle.primitive.specs.Number.{number}
 use Rattle.primitive.specs.Reader.{Outcome, run, stands}
 use Rattle.primitive.specs.Reader.Outcome.{read, fault}
 use Rattle.primitive.proofs.Marks.{stands-cut, stands-room}
@@ -169,35 +168,31 @@ unfolding rowTable
 table-length [] = refl
 table-length (r ∷ rs) = omega (arith, table-length rs, mul-suc 7 (length rs))
 
--- an end mark is in the file
-pub mark-room : (h : Header) (s : List ℕ) (at : ℕ) → boundaryOf h s at ≡ Boundary.EndMark → at + 4 ≤ length s
+-- an end mark stands there, and is in the file
+pub mark-stands : (h : Header) (s : List ℕ) (at : ℕ) → boundaryOf h s at ≡ Boundary.EndMark → stands s at (ascii "ENDB") ≡ true
 unfolding boundaryOf finished
-mark-room h s at e = go (stands s at (ascii "ENDB")) refl
+mark-stands h s at e = go (stands s at (ascii "ENDB")) refl
   where
-    by : (o : Outcome Row) → onRow h s o ≡ Boundary.EndMark → at + 4 ≤ length s
+    by : (o : Outcome Row) → onRow h s o ≡ Boundary.EndMark → false ≡ true
     by (read r n) g = no (isDna (kindOf (r .code))) refl
       where
-        some : (o : Outcome Dna) → catalogued r n o ≡ Boundary.EndMark → at + 4 ≤ length s
-        some (read d end) w =
-            let z : _≡_ {A = ℕ} 0 1 = cc in
-            absurd (omega arith)
-        some (fault x) w =
-            let z : _≡_ {A = ℕ} 0 1 = cc in
-            absurd (omega arith)
+        some : (o : Outcome Dna) → catalogued r n o ≡ Boundary.EndMark → false ≡ true
+        some (read d end) w = cc
+        some (fault x) w = cc
 
-        no : (t : Bool) → isDna (kindOf (r .code)) ≡ t → at + 4 ≤ length s
+        no : (t : Bool) → isDna (kindOf (r .code)) ≡ t → false ≡ true
         no true u = some (run (catalogue (h .endianness)) (payloadOf s r) 0) (sym (held _ _ u) ∙ g)
         no false u =
             let w : Boundary.Block r Last.Other n ≡ Boundary.EndMark = sym (failed _ _ u) ∙ g in
-            let z : _≡_ {A = ℕ} 0 1 = cc in
-            absurd (omega arith)
-    by (fault x) g =
-        let z : _≡_ {A = ℕ} 0 1 = cc in
-        absurd (omega arith)
+            cc
+    by (fault x) g = cc
 
-    go : (t : Bool) → stands s at (ascii "ENDB") ≡ t → at + 4 ≤ length s
-    go true u = omega (arith, stands-room s at (ascii "ENDB") u)
+    go : (t : Bool) → stands s at (ascii "ENDB") ≡ t → t ≡ true
+    go true u = refl
     go false u = by (rowAt h s at) (sym (failed _ _ u) ∙ e)
+
+pub mark-room : (h : Header) (s : List ℕ) (at : ℕ) → boundaryOf h s at ≡ Boundary.EndMark → at + 4 ≤ length s
+mark-room h s at e = omega (arith, stands-room s at (ascii "ENDB") (mark-stands h s at e))
 
 -- the table's numbers, one row more
 module _ (h : Header) (s : List ℕ) (left at : ℕ) where

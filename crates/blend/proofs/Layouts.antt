@@ -174,7 +174,7 @@ module _ (h : Header) (s : List ℕ) (at : ℕ) where
   block-header-on c next g w o p q = rw (p, q) (sym (number-on s at Big 4 numbers c next g ∙ ap (λ (r : Reader BlockHeader). run r s next) (layout-four h c)))
 
 -- how far a block header goes
-tested-reads : {A : Type 0} (f : Field) (n : ℕ) (r : Reader A) (s : List ℕ) (at : ℕ) (a : A) (next : ℕ) → run (tested f n r) s at ≡ read a next → run r s at ≡ read a next
+pub tested-reads : {A : Type 0} (f : Field) (n : ℕ) (r : Reader A) (s : List ℕ) (at : ℕ) (a : A) (next : ℕ) → run (tested f n r) s at ≡ read a next → run r s at ≡ read a next
 unfolding run
 tested-reads {A} size n r s at a next h = h
 tested-reads {A} index n r s at a next h = h

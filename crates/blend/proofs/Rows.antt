@@ -57,7 +57,7 @@ module _ (s : List ℕ) (at n : ℕ) where
 
 -- a block, read by read
 module _ (h : Header) (s : List ℕ) (at : ℕ) where
-  by-code : BlockHeader → Reader BlockHeader
+  unfoldable pub by-code : BlockHeader → Reader BlockHeader
   by-code b = then (taken (kindOf (b .code)) (b .count)) (λ u. done b)
 
   pub row-no-header : (x : Fault) → fault x ≡ run (blockHeader h) s at → fault x ≡ rowAt h s at
@@ -77,7 +77,7 @@ module _ (h : Header) (s : List ℕ) (at : ℕ) where
     payload-at = block-header-moves h s at b from (sym g)
 
     module _ (next : ℕ) (k : _≡_ {A = Outcome (Unit {0})} (read tt next) (run (skip (b .size) (done tt)) s from)) where
-      on-payload : run (block h) s at ≡ run (by-code b) s next
+      pub on-payload : run (block h) s at ≡ run (by-code b) s next
       on-payload = on-header ∙ skip-on s from (b .size) (by-code b) next k
 
       pub payload-fits : at + blockHeaderLength (h .format) (h .«pointer_size») ≤ length s
@@ -118,44 +118,56 @@ code-reads Kind.Principal n b s at d next h = go (eqb n 1) h
     go true g = (cc, cc)
     go false g = (cc, cc)
 
+-- What was read of a block that has a row: its header, the payload's bytes, and the row of both.
+pub record Headed (h : Header) (s : List ℕ) (at : ℕ) (r : Row) (next : ℕ) : Type 0 where
+  pub block : BlockHeader
+  pub from : ℕ
+  pub header : read block from ≡ run (blockHeader h) s at
+  pub payload : _≡_ {A = Outcome (Unit {0})} (read tt next) (run (skip (block .size) (done tt)) s from)
+  pub row : r ≡ rowOf h at block
+
 module _ (h : Header) (s : List ℕ) (at : ℕ) (r : Row) (next : ℕ) (g : rowAt h s at ≡ read r next) where
-  lies : (b : BlockHeader) (from : ℕ) → read b from ≡ run (blockHeader h) s at → (end : ℕ) → _≡_ {A = Outcome (Unit {0})} (read tt end) (run (skip (b .size) (done tt)) s from)
-      → (o : Outcome BlockHeader) → run (block h) s at ≡ o → rowed h at o ≡ read r next → Lies h s at r next
+  headed : (b : BlockHeader) (from : ℕ) → read b from ≡ run (blockHeader h) s at → (end : ℕ) → _≡_ {A = Outcome (Unit {0})} (read tt end) (run (skip (b .size) (done tt)) s from)
+      → (o : Outcome BlockHeader) → run (block h) s at ≡ o → rowed h at o ≡ read r next → Headed h s at r next
   unfolding by-code
-  lies b from t end v (read d m) w e =
+  headed b from t end v (read d m) w e =
       let c = code-reads (kindOf (b .code)) (b .count) b s end d m (sym (on-payload h s at b from t end v) ∙ w) in
       let q : r ≡ rowOf h at d = cc in
-      let p : r ≡ rowOf h at b = q ∙ ap (rowOf h at) (c .0) in
       let n : next ≡ end = cc in
-      let k = skip-room (b .size) s from end v in
-      let f = payload-at h s at b from t in
-      record {
-        starts = ap (λ (x : Row). x .at) p;
-        header = ap (λ (x : Row). x .payload) p;
-        payload = omega (arith, n, k .0, f, ap (λ (x : Row). x .payload) p, ap (λ (x : Row). x .len) p);
-        inside = omega (arith, n, k .0, k .1);
-      }
-  lies b from t end v (fault x) w e =
+      record { block = b; from = from; header = t; payload = ap (λ (k : ℕ). read tt k) n ∙ v; row = q ∙ ap (rowOf h at) (c .0) }
+  headed b from t end v (fault x) w e =
       let z : _≡_ {A = ℕ} 0 1 = cc in
       absurd (omega arith)
 
-  pub row-lies : Lies h s at r next
+  pub row-headed : Headed h s at r next
   unfolding rowAt
-  row-lies = first (run (blockHeader h) s at) refl
+  row-headed = first (run (blockHeader h) s at) refl
     where
-      no : (x : Fault) → fault x ≡ rowAt h s at → Lies h s at r next
+      no : (x : Fault) → fault x ≡ rowAt h s at → Headed h s at r next
       no x e =
           let c : fault x ≡ read r next = e ∙ g in
           let z : _≡_ {A = ℕ} 0 1 = cc in
           absurd (omega arith)
 
-      second : (b : BlockHeader) (from : ℕ) → run (blockHeader h) s at ≡ read b from → (o : Outcome (Unit {0})) → run (skip (b .size) (done tt)) s from ≡ o → Lies h s at r next
-      second b from t (read u end) v = lies b from (sym t) end (sym v) (run (block h) s at) refl g
+      second : (b : BlockHeader) (from : ℕ) → run (blockHeader h) s at ≡ read b from → (o : Outcome (Unit {0})) → run (skip (b .size) (done tt)) s from ≡ o → Headed h s at r next
+      second b from t (read u end) v = headed b from (sym t) end (sym v) (run (block h) s at) refl g
       second b from t (fault x) v = no x (row-no-payload h s at b from (sym t) x (sym v))
 
-      first : (o : Outcome BlockHeader) → run (blockHeader h) s at ≡ o → Lies h s at r next
+      first : (o : Outcome BlockHeader) → run (blockHeader h) s at ≡ o → Headed h s at r next
       first (read b from) t = second b from t (run (skip (b .size) (done tt)) s from) refl
       first (fault x) t = no x (row-no-header h s at x (sym t))
+
+  pub row-lies : Lies h s at r next
+  row-lies =
+      let w = row-headed in
+      let k = skip-room (w .block .size) s (w .from) next (w .payload) in
+      let f = payload-at h s at (w .block) (w .from) (w .header) in
+      record {
+        starts = ap (λ (x : Row). x .at) (w .row);
+        header = ap (λ (x : Row). x .payload) (w .row);
+        payload = omega (arith, k .0, f, ap (λ (x : Row). x .payload) (w .row), ap (λ (x : Row). x .len) (w .row));
+        inside = omega (arith, k .0, k .1);
+      }
 
 -- a block whose row is read: a DNA1's catalogue
 module _ (h : Header) (s : List ℕ) (r : Row) (next : ℕ) (q : Kind) (e : q ≡ kindOf (r .code)) (t : Bool) (d : t ≡ isDna q) where

@@ -3,7 +3,7 @@
 use mathlib.Core.Path.{_≡_, refl, sym, ap, _∙_}
 use Prim.Native.Nat.{ℕ, zero, suc, _+_, _*_, _/_, _≤_, _<_}
 use mathlib.Core.Bool.{Bool, true, false}
-use mathlib.Core.List.{List, [], _∷_, _++_}
+use mathlib.Core.List.{List, [], _∷_, _++_, append-nil}
 use native.Mathlib.Omega.{arith}
 use borrow.Author.Tests.{ltb-false}
 use lib.Dec.{ltb, eqb}
@@ -33,7 +33,7 @@ unfolding rowsSpelt
 rows-many t zero row = refl
 rows-many t (suc n) row = ap suc (rows-many t n (row + 1))
 
-row-at : (t : List ℕ) (n row i : ℕ) → i < n → getD (rowsSpelt t n row) i none ≡ rowSpelt t (row + i)
+pub row-at : (t : List ℕ) (n row i : ℕ) → i < n → getD (rowsSpelt t n row) i none ≡ rowSpelt t (row + i)
 unfolding rowsSpelt
 row-at t zero row i h = absurd (omega arith)
 row-at t (suc n) row zero h =
@@ -71,7 +71,7 @@ module _ (t : List ℕ) (n address : ℕ) where
           ap (λ (x : Paper). elim (eqb address 0) as (λ (b : Bool). Paper) [ true ↦ null | false ↦ x ])
           (seek-same (λ i. rowIs address (getD (spelt t) i none)) (λ i. matches address (cell t i 0) (cell t i 1)) n 0 (λ i _ u. test i (omega arith)))
 
--- rows spell themselves
+-- rows spell themselves, whatever the table holds after them
 cell-on : (r : Row) (t : List ℕ) (row k : ℕ) → cell (rowNumbers r ++ t) (row + 1) k ≡ cell t row k
 cell-on r t row k =
     let e : (row + 1) * 7 + k ≡ suc (suc (suc (suc (suc (suc (suc (row * 7 + k))))))) = omega arith in
@@ -82,16 +82,16 @@ unfolding rowsSpelt
 rows-on r t zero row = refl
 rows-on r t (suc n) row = rw (cell-on r t row 0, cell-on r t row 1, cell-on r t row 2, cell-on r t row 3, cell-on r t row 4, cell-on r t row 5, cell-on r t row 6, rows-on r t n (row + 1)) refl
 
-all-rows : (rs : List Row) → rowsSpelt (rowTable rs) (length rs) 0 ≡ rs
+pub all-rows : (rs : List Row) (rest : List ℕ) → rowsSpelt (rowTable rs ++ rest) (length rs) 0 ≡ rs
 unfolding rowsSpelt rowTable
-all-rows [] = refl
-all-rows (r ∷ rs) = ap (λ (l : List Row). r ∷ l) (rows-on r (rowTable rs) (length rs) 0 ∙ all-rows rs)
+all-rows [] rest = refl
+all-rows (r ∷ rs) rest = ap (λ (l : List Row). r ∷ l) (rows-on r (rowTable rs ++ rest) (length rs) 0 ∙ all-rows rs rest)
 
 pub spells : (rs : List Row) → spelt (rowTable rs) ≡ rs
 unfolding spelt
 spells rs =
     let e : length (rowTable rs) / 7 ≡ length rs = omega (arith, table-length rs) in
-    ap (λ (n : ℕ). rowsSpelt (rowTable rs) n 0) e ∙ all-rows rs
+    ap (λ (n : ℕ). rowsSpelt (rowTable rs) n 0) e ∙ ap (λ (t : List ℕ). rowsSpelt t (length rs) 0) (sym (append-nil (rowTable rs))) ∙ all-rows rs []
 
 pub same-rows : (rs : List Row) (n address : ℕ) → lookupRows rs n address ≡ lookupAs (rowTable rs) n address
 same-rows rs n address = ap (λ (l : List Row). lookupRows l n address) (sym (spells rs)) ∙ same (rowTable rs) n address

@@ -20,7 +20,7 @@ use Rattle.blend.specs.Walker.{stepBy, paperStep, placeOf}
 abbrev pub Stepped : List ℕ → Place → Step → Type 0
 Stepped s p r = (paperStep r ≡ stepBy headerBytes s p .answer) × (placeOf r ≡ stepBy headerBytes s p .place)
 
--- whether a row is one that the address leads to
+-- whether a row is of a kind that is searched, and has this address
 abbrev pub rowIs : ℕ → Row → Bool
 rowIs address r = matches address (r .code) (r .address)
 

@@ -1,0 +1,15 @@
+-- The proofs of the demands.
+pub mod Own
+pub mod HeaderTrees
+pub mod Links
+pub mod Spelling
+pub mod Covering
+pub mod Accepted
+pub mod Files
+pub mod Cover
+pub mod Kept
+pub mod Unaltered
+pub mod OneOutcome
+pub mod Refused
+pub mod Examples
+pub mod Wrong

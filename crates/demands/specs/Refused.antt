@@ -1,0 +1,29 @@
+-- A refused call has written nothing: whatever the refusal, each lent table holds what it held.
+use Prim.Native.Nat.{ℕ}
+use mathlib.Core.List.{List}
+use mathlib.Core.Path.{_≡_}
+use lib.ListN.{length}
+use Rattle.primitive.specs.declared.Endianness.{Endianness}
+use Rattle.primitive.specs.Paper.{Paper}
+use Rattle.primitive.specs.Paper.Paper.{refuses}
+use Rattle.primitive.specs.Reader.{run}
+use Rattle.dna.specs.declared.dna.DnaTables.{DnaTables}
+use Rattle.dna.specs.declared.field.ParsedField.{ParsedField}
+use Rattle.dna.specs.Catalogue.{catalogue, paperTables, Filled}
+use Rattle.dna.specs.Declarators.{declared, parsedAs, filledBy, paperField}
+use Rattle.blend.specs.declared.blend.BlendAnswer.{BlendAnswer}
+use Rattle.blend.specs.Chain.{fileBy, paperBlend}
+use Rattle.blend.specs.Header.{headerBytes}
+use Rattle.demands.specs.Answers.{Answers}
+
+-- an answer that is told as a refusal, with its number and what it carries
+abbrev pub Refused : Paper → Type 0
+Refused p = (number : ℕ) × (carries : List ℕ) × (p ≡ refuses number carries)
+
+-- the three calls that are lent tables to write in
+pub record NothingWritten : Type 0 where
+  pub «parse_field» : (s t t′ : List ℕ) (r : ParsedField) → paperField r ≡ parsedAs (declared s) (length t) → t′ ≡ filledBy (declared s) t → Refused (paperField r) → t′ ≡ t
+  pub dna : (e : Endianness) (p names types structs fields names′ types′ structs′ fields′ : List ℕ) (r : DnaTables)
+      → Filled (run (catalogue e) p 0) r names types structs fields names′ types′ structs′ fields′ → Refused (paperTables r)
+      → (names′ ≡ names) × (types′ ≡ types) × (structs′ ≡ structs) × (fields′ ≡ fields)
+  pub blend : (s t t′ : List ℕ) (r : BlendAnswer) → Answers (fileBy headerBytes) s t r t′ → Refused (paperBlend r) → t′ ≡ t

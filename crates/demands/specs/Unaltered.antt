@@ -1,0 +1,85 @@
+-- One object's bytes cannot alter another's: a second file that differs from one that is read only inside the payloads of blocks other than DNA1, or in any
+-- way after the end mark, is read too, with the same header, rows, end and counts, and every untouched payload shows the same bytes.
+use Prim.Native.Nat.{ℕ, zero, suc, _+_, _≤_, _<_}
+use mathlib.Core.Bool.{Bool, true, false, not, _&&_, _||_}
+use mathlib.Core.List.{List, [], _∷_}
+use mathlib.Core.Path.{_≡_}
+use lib.Dec.{leb, ltb, eqb}
+use lib.ListN.{length, getD}
+use Rattle.primitive.specs.declared.Endianness.{Endianness}
+use Rattle.primitive.specs.Paper.Paper.{accepts}
+use Rattle.primitive.specs.Reader.{Reader, Outcome, run}
+use Rattle.primitive.specs.Tables.{over}
+use Rattle.dna.specs.declared.dna.DnaTables.{DnaTables}
+use Rattle.dna.specs.Catalogue.{catalogue, Filled}
+use Rattle.blend.specs.declared.Row.{Row}
+use Rattle.blend.specs.declared.blend.RawBlend.{RawBlend}
+use Rattle.blend.specs.declared.blend.BlendAnswer.{BlendAnswer}
+use Rattle.blend.specs.Blocks.{codeNumber}
+use Rattle.blend.specs.Chain.{File}
+use Rattle.blend.specs.Chain.{fileBy}
+use Rattle.blend.specs.Header.{HeaderBytes, headerBytes}
+use Rattle.blend.specs.Views.{cell, viewAs, partAs}
+use Rattle.demands.specs.Answers.{Answers, HeaderTree, rowsIn}
+
+-- a block other than DNA1
+abbrev pub isOther : Row → Bool
+isOther r = not (eqb (r .code) (codeNumber "DNA1"))
+
+-- whether a place lies in the payload of one of these rows that is no DNA1
+abbrev pub isFree : List Row → ℕ → Bool
+isFree [] i = false
+isFree (r ∷ rs) i = (isOther r && (leb (r .payload) i && ltb i (r .payload + r .len))) || isFree rs i
+
+-- The two files: z goes at least to the end of the end mark of s, and each byte before it is the one that s has there, unless it lies in such a payload.
+-- After the end mark z may be longer, shorter or different.
+pub record Alike (rows : List Row) (end : ℕ) (s z : List ℕ) : Type 0 where
+  pub long : end ≤ length z
+  pub bytes : (i : ℕ) → i < end → isFree rows i ≡ false → getD z i 0 ≡ getD s i 0
+
+-- `bytes` as a test that computes, of n places from `at` on (proofs/Unaltered.antt: where it holds, the bytes are alike)
+unfoldable pub agree : List Row → List ℕ → List ℕ → (at n : ℕ) → Bool
+agree rows s z at zero = true
+agree rows s z at (suc n) = (isFree rows at || eqb (getD z at 0) (getD s at 0)) && agree rows s z (at + 1) n
+
+-- no byte from the one place up to the other differs
+abbrev pub Untouched : List ℕ → List ℕ → ℕ → ℕ → Type 0
+Untouched s z from to = (i : ℕ) → from ≤ i → i < to → getD z i 0 ≡ getD s i 0
+
+-- two lent tables after a call: the same numbers from the front, and after them what each held
+abbrev pub WroteSame : List ℕ → List ℕ → List ℕ → List ℕ → Type 0
+WroteSame t t′ u u′ = (new : List ℕ) × (t′ ≡ over new t) × (u′ ≡ over new u)
+
+-- `dna` on two payloads, in one order, with tables of the same lengths: the same answer, and the same numbers written into each table
+abbrev pub SameCatalogue : Endianness → List ℕ → List ℕ → Type 0
+SameCatalogue e p q =
+    (n t s f n′ t′ s′ f′ m u v g m′ u′ v′ g′ : List ℕ) (a c : DnaTables) → length m ≡ length n → length u ≡ length t → length v ≡ length s → length g ≡ length f
+    → Filled (run (catalogue e) p 0) a n t s f n′ t′ s′ f′ → Filled (run (catalogue e) q 0) c m u v g m′ u′ v′ g′
+    → (c ≡ a) × WroteSame n n′ m m′ × WroteSame t t′ u u′ × WroteSame s s′ v v′ × WroteSame f f′ g g′
+
+-- The claim of a file s, the answer b and the table t′ (which held t), and of a second file z, the answer c and the table u′ (which held u).
+pub record Stays (s t t′ : List ℕ) (b : RawBlend) (z u u′ : List ℕ) (c : BlendAnswer) : Type 0 where
+  -- the same header, number of rows, end offset and counts
+  pub answer : c ≡ BlendAnswer.Is b
+  pub rows : (rowsIn u′ b ≡ rowsIn t′ b) × WroteSame t t′ u u′
+  -- every payload can be viewed in both, and one in which no byte differs shows the same bytes
+  pub views : (row : ℕ) → row < b .rows
+      → (viewAs s t′ row ≡ accepts 0 []) × (viewAs z u′ row ≡ accepts 0 []) × (Untouched s z (cell t′ row 5) (cell t′ row 5 + cell t′ row 6) → partAs z u′ row ≡ partAs s t′ row)
+  -- so does every DNA1's, and its catalogue is the same
+  pub catalogues : (row : ℕ) → row < b .rows → cell t′ row 0 ≡ codeNumber "DNA1"
+      → (partAs z u′ row ≡ partAs s t′ row) × SameCatalogue (b .header .endianness) (partAs s t′ row) (partAs z u′ row)
+
+-- Whatever `blend` answers of two such files with tables of the same length, where it reads the first.
+abbrev pub Unaltered : (List ℕ → Outcome File) → Type 0
+Unaltered reading =
+    (s t t′ : List ℕ) (b : RawBlend) → Answers reading s t (BlendAnswer.Is b) t′
+    → (z u u′ : List ℕ) (c : BlendAnswer) → Answers reading z u c u′
+    → length u ≡ length t → Alike (rowsIn t′ b) (b .end) s z → Stays s t t′ b z u u′ c
+
+-- whatever tree reads the header, as in Cover.antt
+abbrev pub NoOtherObjectBy : Type 0
+NoOtherObjectBy = (header : Reader HeaderBytes) → HeaderTree header → Unaltered (fileBy header)
+
+-- Can a bad byte in one object's data alter what is read of another? The reading is the one that the contract of `blend` cites.
+abbrev pub NoOtherObject : Type 0
+NoOtherObject = Unaltered (fileBy headerBytes)
