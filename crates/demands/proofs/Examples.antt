@@ -1,18 +1,12 @@
 -- Document 01's P examples, computed of the rules; and a scene to which the demands apply, with copies of it that were changed.
-use Prim.Native.Nat.{ℕ}
-use mathlib.Core.List.{List, [], _∷_}
+use mathlib.Core.List.{[], _∷_}
 use mathlib.Core.Path.{_≡_, refl}
 use native.Mathlib.Omega.{arith}
-use lib.ListN.{replicate}
-use Rattle.primitive.specs.declared.Endianness.the-variants.{Little}
-use Rattle.primitive.specs.declared.PointerSize.the-variants.{Bits64}
 use Rattle.primitive.specs.Ascii.{ascii}
 use Rattle.primitive.specs.Paper.Paper.{refuses}
 use Rattle.primitive.specs.Reader.{run, then, times}
 use Rattle.dna.specs.Catalogue.{catalogue, listed, strings, sized, struct, structured, fieldCount}
 use Rattle.dna.specs.Declarators.{isFunction, taken, groups, spanned, digits, decimal, numbers, product, pointerOrValue, declared}
-use Rattle.blend.specs.declared.FileFormat.the-variants.{Legacy}
-use Rattle.blend.specs.declared.blend.RawBlend.{RawBlend}
 use Rattle.blend.specs.declared.blend.BlendAnswer.{BlendAnswer}
 use Rattle.blend.specs.Blocks.{fields, blockHeader, kindOf, block, rowAt, finished, boundaryOf}
 use Rattle.blend.specs.Chain.{chain, chainFrom, fileBy, readAs, rowTable}
@@ -20,7 +14,7 @@ use Rattle.blend.specs.Header.{decimal as versionDecimal, legacy, new, headerBy
 use Rattle.held.specs.Held.{rowsSpelt}
 use Rattle.demands.specs.Answers.{Answers, rowsIn}
 use Rattle.demands.specs.Cover.{Covered}
-use Rattle.demands.specs.Examples.{AtTheEdges, scene}
+use Rattle.demands.specs.Examples.{AtTheEdges, scene, sound, changed, answer, before, after, ScenesAreRead}
 use Rattle.blend.specs.Views.{partAs}
 use Rattle.demands.specs.Unaltered.{agree, Alike, Untouched, Stays}
 use Rattle.demands.proofs.Cover.{every-block}
@@ -31,29 +25,6 @@ unfolding run then headerBytes legacy new versionDecimal chainFrom chain boundar
 at-the-edges =
     (λ room. refl, (λ room. refl, (refl, (refl, (λ room. refl, ((refl, refl), ((refl, refl), ((refl, refl), ((refl, refl), ((refl, refl), ((refl, refl), ((refl, refl), tt))))))))))))
 
--- the answer of the scene, and a table of 22 numbers before and after
-abbrev pub answer : RawBlend
-answer =
-    record {
-      header = record { «pointer_size» = Bits64; endianness = Little; version = record { major = 2; minor = 80 }; format = Legacy };
-      rows = 3;
-      end = 148;
-      dna = record { names = 1; types = 1; structs = 1; fields = 1 };
-    }
-
-abbrev pub before : List ℕ
-before = replicate 22 9
-
-abbrev pub after : List ℕ
-after = 1329725440 ∷ 16 ∷ 3 ∷ 1 ∷ 12 ∷ 36 ∷ 4 ∷ 1329725440 ∷ 16 ∷ 3 ∷ 1 ∷ 40 ∷ 64 ∷ 4 ∷ 1145979185 ∷ 32 ∷ 0 ∷ 1 ∷ 68 ∷ 92 ∷ 52 ∷ 9 ∷ []
-
--- the scene with bytes after its end mark, and a copy with another payload of the first object and nothing after the mark
-abbrev pub sound : List ℕ
-sound = scene (ascii "hull") (ascii "hull") (ascii "TYPE") (ascii "after")
-
-abbrev pub changed : List ℕ
-changed = scene (0 ∷ 255 ∷ 69 ∷ 78 ∷ []) (ascii "hull") (ascii "TYPE") []
-
 -- both are read, with the same answer and the same table
 pub read-sound : Answers (fileBy headerBytes) sound before (BlendAnswer.Is answer) after
 unfolding run then times headerBytes legacy new versionDecimal chainFrom chain boundaryOf rowAt block blockHeader fields kindOf finished catalogue listed strings sized structured struct fieldCount readAs rowTable scene
@@ -62,6 +33,9 @@ read-sound = (refl, refl)
 pub read-changed : Answers (fileBy headerBytes) changed before (BlendAnswer.Is answer) after
 unfolding run then times headerBytes legacy new versionDecimal chainFrom chain boundaryOf rowAt block blockHeader fields kindOf finished catalogue listed strings sized structured struct fieldCount readAs rowTable scene
 read-changed = (refl, refl)
+
+pub scenes-are-read : ScenesAreRead
+scenes-are-read = (read-sound, read-changed)
 
 -- they are alike but in the first object's payload, so the second demand applies; the first does to both
 pub alike : Alike (rowsIn after answer) 148 sound changed

@@ -14,10 +14,10 @@ use Rattle.blend.specs.Header.{decimal as versionDecimal, legacy, new, headerBy
 use Rattle.held.specs.Held.{rowsSpelt}
 use Rattle.demands.specs.Answers.{Answers}
 use Rattle.demands.specs.Cover.{blocksPart, Cover}
-use Rattle.demands.specs.Examples.{scene}
+use Rattle.demands.specs.Examples.{scene, sound, changed, answer, before, after}
 use Rattle.demands.specs.Unaltered.{Unaltered}
 use Rattle.demands.specs.Wrong.{peekingBy, shortBy, unmarkedBy, repeatingBy}
-use Rattle.demands.proofs.Examples.{answer, before, after, sound, changed, alike}
+use Rattle.demands.proofs.Examples.{alike}
 
 -- A reader that looks at a payload's byte reads the one scene and refuses the other.
 peeking-sound : Answers (peekingBy headerBytes) sound before (BlendAnswer.Is answer) after

@@ -2,12 +2,19 @@
 use Prim.Native.Nat.{ℕ}
 use mathlib.Core.List.{List, [], _∷_, _++_}
 use mathlib.Core.Path.{_≡_}
+use lib.ListN.{replicate}
+use Rattle.primitive.specs.declared.Endianness.the-variants.{Little}
+use Rattle.primitive.specs.declared.PointerSize.the-variants.{Bits64}
 use Rattle.primitive.specs.Ascii.{ascii}
 use Rattle.primitive.specs.Paper.{Paper}
 use Rattle.primitive.specs.Paper.Paper.{refuses}
 use Rattle.dna.specs.Declarators.{declared, told, parsedAs, dimensionsOf}
+use Rattle.blend.specs.declared.FileFormat.the-variants.{Legacy}
+use Rattle.blend.specs.declared.blend.RawBlend.{RawBlend}
+use Rattle.blend.specs.declared.blend.BlendAnswer.{BlendAnswer}
 use Rattle.blend.specs.Chain.{fileBy, readAs}
 use Rattle.blend.specs.Header.{headerBytes, versionOf}
+use Rattle.demands.specs.Answers.{Answers}
 
 pub data Example : Type 0 where
   file : List ℕ → Paper → Example  -- a file, and what the reader answers
@@ -59,3 +66,30 @@ scene one other mark after =
     ++ ascii "SDNANAME" ++ (1 ∷ 0 ∷ 0 ∷ 0 ∷ 120 ∷ 0 ∷ 0 ∷ 0 ∷ []) ++ mark ++ (1 ∷ 0 ∷ 0 ∷ 0 ∷ []) ++ ascii "int" ++ (0 ∷ [])
     ++ ascii "TLEN" ++ (4 ∷ 0 ∷ 0 ∷ 0 ∷ []) ++ ascii "STRC" ++ (1 ∷ 0 ∷ 0 ∷ 0 ∷ 0 ∷ 0 ∷ 1 ∷ 0 ∷ 0 ∷ 0 ∷ 0 ∷ 0 ∷ [])
     ++ ascii "ENDB" ++ after
+
+-- the scene with bytes after its end mark, and a copy with another payload of the first object and nothing after the mark
+abbrev pub sound : List ℕ
+sound = scene (ascii "hull") (ascii "hull") (ascii "TYPE") (ascii "after")
+
+abbrev pub changed : List ℕ
+changed = scene (0 ∷ 255 ∷ 69 ∷ 78 ∷ []) (ascii "hull") (ascii "TYPE") []
+
+-- their answer, and a table of 22 numbers before and after
+abbrev pub answer : RawBlend
+answer =
+    record {
+      header = record { «pointer_size» = Bits64; endianness = Little; version = record { major = 2; minor = 80 }; format = Legacy };
+      rows = 3;
+      end = 148;
+      dna = record { names = 1; types = 1; structs = 1; fields = 1 };
+    }
+
+abbrev pub before : List ℕ
+before = replicate 22 9
+
+abbrev pub after : List ℕ
+after = 1329725440 ∷ 16 ∷ 3 ∷ 1 ∷ 12 ∷ 36 ∷ 4 ∷ 1329725440 ∷ 16 ∷ 3 ∷ 1 ∷ 40 ∷ 64 ∷ 4 ∷ 1145979185 ∷ 32 ∷ 0 ∷ 1 ∷ 68 ∷ 92 ∷ 52 ∷ 9 ∷ []
+
+-- both are read, with the same answer and the same table
+abbrev pub ScenesAreRead : Type 0
+ScenesAreRead = Answers (fileBy headerBytes) sound before (BlendAnswer.Is answer) after × Answers (fileBy headerBytes) changed before (BlendAnswer.Is answer) after
