@@ -105,4 +105,17 @@ one-outcome =
       «held::row_is» = λ row address. given _;
       «held::find_row» = λ rows n address. told paperPointer wholePointer _;
       «held::find_in» = λ rows n address. told paperPointer wholePointer _;
+      «exports::blend_header» = λ file. given _;
+      «exports::blend_read» = λ file table. given _;
+      «exports::blend_read:table» = λ file table. given _;
+      «exports::blend_catalogue» = λ payload order names types structs fields. λ r n t s f q m u v g a b. (a .answer ∙ sym (b .answer), a .in-names ∙ sym (b .in-names), a .in-types ∙ sym (b .in-types), a .in-structs ∙ sym (b .in-structs), a .in-fields ∙ sym (b .in-fields));
+      «exports::blend_field» = λ name dimensions. given _;
+      «exports::blend_field:dimensions» = λ name dimensions. given _;
+      «exports::blend_width» = λ kind length size «pointer_bytes». given _;
+      «exports::blend_view» = λ file table row. given _;
+      «exports::blend_lookup» = λ table rows address. given _;
+      «exports::blend_u8» = λ slice order. given _;
+      «exports::blend_u16» = λ slice order. given _;
+      «exports::blend_u32» = λ slice order. given _;
+      «exports::blend_u64» = λ slice order. given _;
     }

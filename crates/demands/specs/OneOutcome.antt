@@ -63,8 +63,16 @@ use Rattle.blend.specs.Header.{headerLength, pointerMark, orderMark, versionOf,
 use Rattle.blend.specs.Blocks.{blockHeaderLength, kindOf}
 use Rattle.blend.specs.Chain.{fileBy, perRow, readAs, tableAfter, paperBlend}
 use Rattle.blend.specs.Walker.{stepBy, paperStep, placeOf, start}
-use Rattle.blend.specs.Views.{viewAs, partAs, paperView}
+use Rattle.blend.specs.Views.{cell, viewAs, partAs, paperView}
 use Rattle.blend.specs.Addresses.{matches, lookupAs, paperPointer, codeAs, paperCode}
+use Rattle.exports.specs.declared.BlendHeader.{BlendHeader}
+use Rattle.exports.specs.declared.BlendRead.{BlendRead}
+use Rattle.exports.specs.declared.BlendCatalogue.{BlendCatalogue}
+use Rattle.exports.specs.declared.BlendField.{BlendField}
+use Rattle.exports.specs.declared.BlendView.{BlendView}
+use Rattle.exports.specs.declared.BlendPointer.{BlendPointer}
+use Rattle.exports.specs.declared.BlendValue.{BlendValue}
+use Rattle.exports.specs.Exports.{orderOf, headerOut, readOut, Catalogued, fieldOut, declaratorOf, sizeOf, viewOut, pointerOut, valueOut}
 use Rattle.held.specs.declared.Walker.{Walker}
 use Rattle.held.specs.Held.{Stepped, rowIs, lookupRows}
 
@@ -73,9 +81,9 @@ abbrev pub Only : {A : Type 0} → (A → Type 0) → Type 0
 Only {A} contract = (r q : A) → contract r → contract q → r ≡ q
 
 -- the same of an answer with four tables
-abbrev pub OnlyTables : (DnaTables → List ℕ → List ℕ → List ℕ → List ℕ → Type 0) → Type 0
-OnlyTables contract =
-    (r : DnaTables) (n t s f : List ℕ) (q : DnaTables) (m u v g : List ℕ) → contract r n t s f → contract q m u v g → (r ≡ q) × (n ≡ m) × (t ≡ u) × (s ≡ v) × (f ≡ g)
+abbrev pub OnlyTables : {A : Type 0} → (A → List ℕ → List ℕ → List ℕ → List ℕ → Type 0) → Type 0
+OnlyTables {A} contract =
+    (r : A) (n t s f : List ℕ) (q : A) (m u v g : List ℕ) → contract r n t s f → contract q m u v g → (r ≡ q) × (n ≡ m) × (t ≡ u) × (s ≡ v) × (f ≡ g)
 
 pub record OneOutcome : Type 0 where
   -- The lowest layer: `primitive`
@@ -115,7 +123,7 @@ pub record OneOutcome : Type 0 where
   pub «primitive::primitive::blender_name_i64» : Only (λ (r : Name). r ≡ named (ascii "int64_t"))
   -- Declarators and the catalogue: `dna`
   pub «dna::dna::dna_counts» : (payload : List ℕ) (endianness : Endianness) → Only (λ (r : DnaCounted). (paperCounted r ≡ countedAs (run (catalogue endianness) payload 0)) × (outcomeOf r ≡ countsOnly (run (catalogue endianness) payload 0)))
-  pub «dna::dna::dna» : (payload : List ℕ) (endianness : Endianness) (names types structs fields : List ℕ) → OnlyTables (λ r names′ types′ structs′ fields′. Filled (run (catalogue endianness) payload 0) r names types structs fields names′ types′ structs′ fields′)
+  pub «dna::dna::dna» : (payload : List ℕ) (endianness : Endianness) (names types structs fields : List ℕ) → OnlyTables (λ (r : DnaTables) names′ types′ structs′ fields′. Filled (run (catalogue endianness) payload 0) r names types structs fields names′ types′ structs′ fields′)
   pub «dna::field::fn_pointer» : (name : List ℕ) → Only (λ (r : FnPointerField). paperFunction r ≡ functionAs name)
   pub «dna::field::scan_field» : (name : List ℕ) → Only (λ (r : ParsedField). paperField r ≡ scannedAs (declared name))
   pub «dna::field::parse_field» : (name dimensions : List ℕ) → Only (λ (r : ParsedField). paperField r ≡ parsedAs (declared name) (length dimensions))
@@ -151,3 +159,17 @@ pub record OneOutcome : Type 0 where
   pub «held::row_is» : (row : Row) (address : ℕ) → Only (λ (r : Bool). r ≡ rowIs address row)
   pub «held::find_row» : (rows : List Row) (n address : ℕ) → Only (λ (r : Pointer). paperPointer r ≡ lookupRows rows n address)
   pub «held::find_in» : (rows : List Row) (n address : ℕ) → Only (λ (r : Pointer). paperPointer r ≡ lookupRows rows n address)
+  -- The library for other languages: `exports`
+  pub «exports::blend_header» : (file : List ℕ) → Only (λ (r : BlendHeader). r ≡ headerOut (headerAs (valued (run headerBytes file 0))))
+  pub «exports::blend_read» : (file table : List ℕ) → Only (λ (r : BlendRead). r ≡ readOut (readAs (fileBy headerBytes file) (length table / perRow)))
+  pub «exports::blend_read:table» : (file table : List ℕ) → Only (λ (table′ : List ℕ). table′ ≡ tableAfter (fileBy headerBytes file) table)
+  pub «exports::blend_catalogue» : (payload : List ℕ) (order : ℕ) (names types structs fields : List ℕ) → OnlyTables (λ (r : BlendCatalogue) names′ types′ structs′ fields′. Catalogued (run (catalogue (orderOf order)) payload 0) r names types structs fields names′ types′ structs′ fields′)
+  pub «exports::blend_field» : (name dimensions : List ℕ) → Only (λ (r : BlendField). r ≡ fieldOut (parsedAs (declared name) (length dimensions)))
+  pub «exports::blend_field:dimensions» : (name dimensions : List ℕ) → Only (λ (dimensions′ : List ℕ). dimensions′ ≡ filledBy (declared name) dimensions)
+  pub «exports::blend_width» : (kind length size «pointer_bytes» : ℕ) → Only (λ (r : BlendValue). r ≡ valueOut (widthAs (declaratorOf kind length) size (sizeOf «pointer_bytes»)))
+  pub «exports::blend_view» : (file table : List ℕ) (row : ℕ) → Only (λ (r : BlendView). r ≡ viewOut (viewAs file table row) (cell table row 5) (cell table row 6))
+  pub «exports::blend_lookup» : (table : List ℕ) (rows address : ℕ) → Only (λ (r : BlendPointer). r ≡ pointerOut (lookupAs table rows address))
+  pub «exports::blend_u8» : (slice : List ℕ) (order : ℕ) → Only (λ (r : BlendValue). r ≡ valueOut (valueOf 1 unsigned (orderOf order) slice))
+  pub «exports::blend_u16» : (slice : List ℕ) (order : ℕ) → Only (λ (r : BlendValue). r ≡ valueOut (valueOf 2 unsigned (orderOf order) slice))
+  pub «exports::blend_u32» : (slice : List ℕ) (order : ℕ) → Only (λ (r : BlendValue). r ≡ valueOut (valueOf 4 unsigned (orderOf order) slice))
+  pub «exports::blend_u64» : (slice : List ℕ) (order : ℕ) → Only (λ (r : BlendValue). r ≡ valueOut (valueOf 8 unsigned (orderOf order) slice))

@@ -1,0 +1,52 @@
+-- `blend_header`: the header and its length, or refusal 1 or 2.
+use mathlib.Core.Path.{sym, _∙_, ap}
+use Rattle.blend.specs.Header.{paperHeader}
+use Rattle.exports.specs.Exports.{headerOut}
+use borrow.Author.Needs.{needs}
+use Rattle.exports.proofs.blend_header.Statement.{statement}
+use Rattle.exports.proofs.blend_header.Tie as tie
+
+header-requires : tie.Need-header-requires
+header-requires c κs = search needs
+
+enum-known-h : tie.Need-enum-known-h
+enum-known-h c = search needs
+
+edition-requires : tie.Need-edition-requires
+edition-requires c κs = search needs
+
+bytes-num-requires : tie.Need-bytes-num-requires
+bytes-num-requires c κs = search needs
+
+order-requires : tie.Need-order-requires
+order-requires c κs = search needs
+
+cast-t15 : tie.Need-cast-t15
+cast-t15 c = search needs
+
+cast-t16 : tie.Need-cast-t16
+cast-t16 c = search needs
+
+enum-known-n : tie.Need-enum-known-n
+enum-known-n c = search needs
+
+returns : tie.Need-returns
+returns c = rw (c .before .before .order .ensures, c .before .before .before .bytes-num .ensures .0, c .before .before .before .before .edition .ensures) (ap headerOut (ap paperHeader (sym (c .before .before .before .before .before .before .before .h .given .1)) ∙ c .before .before .before .before .before .before .before .before .before .header .ensures))
+
+returns-2 : tie.Need-returns-2
+returns-2 c = ap headerOut (ap paperHeader (sym (c .before .n .given .1)) ∙ c .before .before .before .header .ensures)
+
+pub blend-header-spec : {M : Type 1} → statement M
+blend-header-spec =
+    tie.close
+    (tie.spec
+    header-requires
+    enum-known-h
+    edition-requires
+    bytes-num-requires
+    order-requires
+    cast-t15
+    cast-t16
+    enum-known-n
+    returns
+    returns-2)

@@ -1,0 +1,153 @@
+-- What the functions for other languages answer: the paper of the reader's answer as a struct of numbers. `refusal` is 0 or the refusal's number, and what an
+-- answer does not tell is 0.
+use Prim.Native.Nat.{ℕ}
+use mathlib.Core.Bool.{true, false}
+use mathlib.Core.List.{List, []}
+use mathlib.Core.Path.{_≡_}
+use lib.Dec.{eqb}
+use lib.ListN.{length, getD}
+use Rattle.primitive.specs.declared.Endianness.{Endianness}
+use Rattle.primitive.specs.declared.Endianness.the-variants.{Little, Big}
+use Rattle.primitive.specs.declared.PointerSize.{PointerSize}
+use Rattle.primitive.specs.declared.PointerSize.the-variants.{Bits32, Bits64}
+use Rattle.primitive.specs.Paper.{Paper}
+use Rattle.primitive.specs.Paper.Paper.{accepts, integer, real, refuses}
+use Rattle.primitive.specs.Reader.{Outcome}
+use Rattle.dna.specs.declared.field.Declarator.{Declarator}
+use Rattle.dna.specs.declared.field.FieldInfo.{FieldInfo}
+use Rattle.dna.specs.Catalogue.{Dna, rooms, readAs, namesTable, typesTable, structsTable, fieldsTable}
+use Rattle.exports.specs.declared.BlendHeader.{BlendHeader}
+use Rattle.exports.specs.declared.BlendRead.{BlendRead}
+use Rattle.exports.specs.declared.BlendCatalogue.{BlendCatalogue}
+use Rattle.exports.specs.declared.BlendField.{BlendField}
+use Rattle.exports.specs.declared.BlendView.{BlendView}
+use Rattle.exports.specs.declared.BlendPointer.{BlendPointer}
+use Rattle.exports.specs.declared.BlendValue.{BlendValue}
+
+-- the refusal's number, what it carries, and the numbers of an answer
+abbrev pub refusal : Paper → ℕ
+refusal (accepts k vs) = 0
+refusal (integer z) = 0
+refusal (real x) = 0
+refusal (refuses n vs) = n
+
+abbrev pub carried : Paper → ℕ → ℕ
+carried (accepts k vs) i = 0
+carried (integer z) i = 0
+carried (real x) i = 0
+carried (refuses n vs) i = getD vs i 0
+
+abbrev pub told : Paper → ℕ → ℕ
+told (accepts k vs) i = getD vs i 0
+told (integer z) i = 0
+told (real x) i = 0
+told (refuses n vs) i = 0
+
+-- an order by its number: 0 little, any other big
+abbrev pub orderOf : ℕ → Endianness
+orderOf n = elim (eqb n 0) [ true ↦ Little | false ↦ Big ]
+
+-- edition (0 legacy, 1 new), pointer bytes, order (0 little, 1 big), major, minor, the header's length
+abbrev pub headerOut : Paper → BlendHeader
+headerOut p =
+    record { refusal = refusal p; edition = told p 0; «pointer_bytes» = told p 1; order = told p 2; major = told p 3; minor = told p 4; length = told p 5 }
+
+-- the rows needed where the table is too short; then the header, the number of rows, the offset after the end mark, and the counts of the last DNA1
+abbrev pub readOut : Paper → BlendRead
+readOut p =
+    record {
+      refusal = refusal p;
+      needed = carried p 0;
+      edition = told p 0;
+      «pointer_bytes» = told p 1;
+      order = told p 2;
+      major = told p 3;
+      minor = told p 4;
+      rows = told p 5;
+      end = told p 6;
+      names = told p 7;
+      types = told p 8;
+      structs = told p 9;
+      fields = told p 10;
+    }
+
+-- the first table that is too short, 1 to 4, and the rows that it needs; the four counts
+abbrev pub catalogueOut : Paper → BlendCatalogue
+catalogueOut p =
+    record { refusal = refusal p; table = carried p 0; needed = carried p 1; names = told p 0; types = told p 1; structs = told p 2; fields = told p 3 }
+
+-- what `blend_catalogue` promises of a payload's reading: the answer, and the four tables afterwards, as `dna` fills them
+pub record Catalogued (o : Outcome Dna) (r : BlendCatalogue) (names types structs fields names′ types′ structs′ fields′ : List ℕ) : Type 0 where
+  pub answer : r ≡ catalogueOut (readAs o (rooms (length names) (length types) (length structs) (length fields)))
+  pub in-names : names′ ≡ namesTable o (rooms (length names) (length types) (length structs) (length fields)) names
+  pub in-types : types′ ≡ typesTable o (rooms (length names) (length types) (length structs) (length fields)) types
+  pub in-structs : structs′ ≡ structsTable o (rooms (length names) (length types) (length structs) (length fields)) structs
+  pub in-fields : fields′ ≡ fieldsTable o (rooms (length names) (length types) (length structs) (length fields)) fields
+
+-- A declarator's kind (0 value, 1 array, 2 pointer, 3 pointer array, 4 function pointer), the places of its name and its rest, and indirection, length and
+-- number of dimensions: 0, 1 and 0 where the kind has none.
+abbrev pub indirectionOf : ℕ → List ℕ → ℕ
+indirectionOf kind vs = elim (eqb kind 2) [ true ↦ getD vs 4 0 | false ↦ elim (eqb kind 3) [ true ↦ getD vs 4 0 | false ↦ 0 ] ]
+
+abbrev pub lengthOf : ℕ → List ℕ → ℕ
+lengthOf kind vs = elim (eqb kind 1) [ true ↦ getD vs 4 0 | false ↦ elim (eqb kind 3) [ true ↦ getD vs 5 0 | false ↦ 1 ] ]
+
+abbrev pub dimensionsOf : ℕ → List ℕ → ℕ
+dimensionsOf kind vs = elim (eqb kind 1) [ true ↦ getD vs 5 0 | false ↦ elim (eqb kind 3) [ true ↦ getD vs 6 0 | false ↦ 0 ] ]
+
+abbrev pub fieldTold : (refusal needed kind : ℕ) → List ℕ → (indirection length dimensions : ℕ) → BlendField
+fieldTold refusal needed kind vs indirection length dimensions =
+    record {
+      refusal = refusal;
+      needed = needed;
+      kind = kind;
+      «name_at» = getD vs 0 0;
+      «name_length» = getD vs 1 0;
+      «rest_at» = getD vs 2 0;
+      «rest_length» = getD vs 3 0;
+      indirection = indirection;
+      length = length;
+      dimensions = dimensions;
+    }
+
+abbrev pub fieldOut : Paper → BlendField
+fieldOut (accepts kind vs) = fieldTold 0 0 kind vs (indirectionOf kind vs) (lengthOf kind vs) (dimensionsOf kind vs)
+fieldOut (integer z) = fieldTold 0 0 0 [] 0 0 0
+fieldOut (real x) = fieldTold 0 0 0 [] 0 0 0
+fieldOut (refuses n vs) = fieldTold n (getD vs 0 0) 0 [] 0 0 0
+
+-- A declarator by its kind's number and its length: what its width goes by. A number that is no kind stands for a value.
+abbrev pub infoOf : ℕ → ℕ → FieldInfo
+infoOf kind length =
+    elim (eqb kind 1) [
+      | true ↦ FieldInfo.ValueArray length 0
+      | false ↦ elim (eqb kind 2) [
+        | true ↦ FieldInfo.Pointer 1
+        | false ↦ elim (eqb kind 3) [ true ↦ FieldInfo.PointerArray 1 length 0 | false ↦ elim (eqb kind 4) [ true ↦ FieldInfo.FnPointer | false ↦ FieldInfo.Value ] ]
+      ]
+    ]
+
+abbrev pub declaratorOf : ℕ → ℕ → Declarator
+declaratorOf kind length = record { name = record { at = 0; len = 0 }; rest = record { at = 0; len = 0 }; kind = infoOf kind length }
+
+-- a pointer size by its bytes: 4, any other 8
+abbrev pub sizeOf : ℕ → PointerSize
+sizeOf bytes = elim (eqb bytes 4) [ true ↦ Bits32 | false ↦ Bits64 ]
+
+-- a payload's offset and length
+abbrev pub viewOut : Paper → (at length : ℕ) → BlendView
+viewOut (accepts k vs) at length = record { refusal = 0; at = at; length = length }
+viewOut (integer z) at length = record { refusal = 0; at = 0; length = 0 }
+viewOut (real x) at length = record { refusal = 0; at = 0; length = 0 }
+viewOut (refuses n vs) at length = record { refusal = n; at = 0; length = 0 }
+
+-- 0 Null, 1 found, with the row, 2 Missing
+abbrev pub pointerOut : Paper → BlendPointer
+pointerOut (accepts k vs) = record { refusal = 0; kind = k; row = getD vs 0 0 }
+pointerOut (integer z) = record { refusal = 0; kind = 0; row = 0 }
+pointerOut (real x) = record { refusal = 0; kind = 0; row = 0 }
+pointerOut (refuses n vs) = record { refusal = n; kind = 0; row = 0 }
+
+-- a width, or a value's bits as an unsigned number
+abbrev pub valueOut : Paper → BlendValue
+valueOut p = record { refusal = refusal p; value = told p 0 }

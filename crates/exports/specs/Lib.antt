@@ -1,0 +1,2 @@
+-- The rules of the library for other languages.
+pub mod Exports

@@ -1,0 +1,565 @@
+// The library for other languages: numbers and slices in, a struct of numbers by value out. Each function calls one of the reader's and tells its answer
+// in document 01's numbers; the contract says so by the reader's own definitions. A slice crosses as a pointer and a length. blend.h says what each
+// function is for.
+use blend::FileFormat;
+use blend::Header;
+use blend::Row;
+use blend::blend::BlendAnswer;
+use blend::blend::HeaderAnswer;
+use blend::blend::RawBlend;
+use blend::blend::blend;
+use blend::blend::header;
+use blend::runtime::Pointer;
+use blend::runtime::ViewAnswer;
+use blend::runtime::get_ptr;
+use blend::runtime::view;
+use dna::dna::DnaTables;
+use dna::dna::dna;
+use dna::field::Declarator;
+use dna::field::FieldInfo;
+use dna::field::FieldWidth;
+use dna::field::ParsedField;
+use dna::field::Place;
+use dna::field::parse_field;
+use dna::field::width;
+use primitive::Endianness;
+use primitive::PointerSize;
+use primitive::primitive::ValueU8;
+use primitive::primitive::ValueU16;
+use primitive::primitive::ValueU32;
+use primitive::primitive::ValueU64;
+use primitive::primitive::parse_u8;
+use primitive::primitive::parse_u16;
+use primitive::primitive::parse_u32;
+use primitive::primitive::parse_u64;
+ghost use mathlib.Core.Path.{_≡_};
+ghost use Prim.Native.Nat.{_/_};
+ghost use mathlib.Core.List.{[], _∷_};
+ghost use lib.ListN.{length};
+ghost use Rattle.primitive.specs.Paper.Paper.{refuses};
+ghost use Rattle.primitive.specs.Primitive.{valueOf, unsigned};
+ghost use Rattle.primitive.specs.Reader.{run};
+ghost use Rattle.dna.specs.Catalogue as catalogues;
+ghost use Rattle.dna.specs.Declarators as declarators;
+ghost use Rattle.blend.specs.Addresses.{lookupAs};
+ghost use Rattle.blend.specs.Chain as chains;
+ghost use Rattle.blend.specs.Header as headers;
+ghost use Rattle.blend.specs.Views as views;
+ghost use Rattle.exports.specs.Exports as rules;
+
+// In every struct `refusal` is 0, or the number of the refusal; then all that it does not carry is 0.
+#[repr(C)]
+pub struct BlendHeader {
+    pub refusal: u64,
+    pub edition: u64,
+    pub pointer_bytes: u64,
+    pub order: u64,
+    pub major: u64,
+    pub minor: u64,
+    pub length: u64,
+}
+
+#[repr(C)]
+pub struct BlendRead {
+    pub refusal: u64,
+    pub needed: u64,
+    pub edition: u64,
+    pub pointer_bytes: u64,
+    pub order: u64,
+    pub major: u64,
+    pub minor: u64,
+    pub rows: u64,
+    pub end: u64,
+    pub names: u64,
+    pub types: u64,
+    pub structs: u64,
+    pub fields: u64,
+}
+
+#[repr(C)]
+pub struct BlendCatalogue {
+    pub refusal: u64,
+    pub table: u64,
+    pub needed: u64,
+    pub names: u64,
+    pub types: u64,
+    pub structs: u64,
+    pub fields: u64,
+}
+
+#[repr(C)]
+pub struct BlendField {
+    pub refusal: u64,
+    pub needed: u64,
+    pub kind: u64,
+    pub name_at: u64,
+    pub name_length: u64,
+    pub rest_at: u64,
+    pub rest_length: u64,
+    pub indirection: u64,
+    pub length: u64,
+    pub dimensions: u64,
+}
+
+#[repr(C)]
+pub struct BlendView {
+    pub refusal: u64,
+    pub at: u64,
+    pub length: u64,
+}
+
+#[repr(C)]
+pub struct BlendPointer {
+    pub refusal: u64,
+    pub kind: u64,
+    pub row: u64,
+}
+
+#[repr(C)]
+pub struct BlendValue {
+    pub refusal: u64,
+    pub value: u64,
+}
+
+fn edition(f: FileFormat) -> u64
+    ensures { λ r. ⌜ r ≡ headers.edition f ⌝ }
+{
+    match f {
+        FileFormat::Legacy => 0,
+        FileFormat::New => 1,
+    }
+}
+
+fn order(e: Endianness) -> u64
+    ensures { λ r. ⌜ r ≡ headers.order e ⌝ }
+{
+    match e {
+        Endianness::Little => 0,
+        Endianness::Big => 1,
+    }
+}
+
+// The order that a number stands for: 0 little, any other big.
+fn order_of(n: u64) -> Endianness
+    ensures { λ r. ⌜ r ≡ rules.orderOf n ⌝ }
+{
+    if n == 0 {
+        Endianness::Little
+    } else {
+        Endianness::Big
+    }
+}
+
+#[no_mangle]
+pub extern "C" fn blend_header(file: &[u8]) -> BlendHeader
+    ensures { λ r. ⌜ r ≡ rules.headerOut (headers.headerAs (headers.valued (run headers.headerBytes (now (file .entry)) 0))) ⌝ }
+{
+    match header(file) {
+        HeaderAnswer::Is(h, at) => {
+            let format = h.format;
+            let size = h.pointer_size;
+            let endianness = h.endianness;
+            let version = h.version;
+            BlendHeader {
+                refusal: 0,
+                edition: edition(format),
+                pointer_bytes: size.bytes_num() as u64,
+                order: order(endianness),
+                major: version.major as u64,
+                minor: version.minor as u64,
+                length: at as u64,
+            }
+        }
+        HeaderAnswer::Refused(n) => BlendHeader {
+            refusal: n,
+            edition: 0,
+            pointer_bytes: 0,
+            order: 0,
+            major: 0,
+            minor: 0,
+            length: 0,
+        },
+    }
+}
+
+// The struct of a file that was read.
+fn read_out(b: RawBlend) -> BlendRead
+    ensures { λ r. ⌜ r ≡ rules.readOut (chains.paperBlend (BlendAnswer.Is b)) ⌝ }
+{
+    let h = b.header;
+    let format = h.format;
+    let size = h.pointer_size;
+    let endianness = h.endianness;
+    let version = h.version;
+    let counts = b.dna;
+    BlendRead {
+        refusal: 0,
+        needed: 0,
+        edition: edition(format),
+        pointer_bytes: size.bytes_num() as u64,
+        order: order(endianness),
+        major: version.major as u64,
+        minor: version.minor as u64,
+        rows: b.rows as u64,
+        end: b.end as u64,
+        names: counts.names,
+        types: counts.types,
+        structs: counts.structs,
+        fields: counts.fields,
+    }
+}
+
+fn read_refused(refusal: u64, needed: u64) -> BlendRead
+    ensures { λ r. ⌜ r ≡ rules.readOut (refuses refusal (needed ∷ [])) ⌝ }
+{
+    BlendRead {
+        refusal: refusal,
+        needed: needed,
+        edition: 0,
+        pointer_bytes: 0,
+        order: 0,
+        major: 0,
+        minor: 0,
+        rows: 0,
+        end: 0,
+        names: 0,
+        types: 0,
+        structs: 0,
+        fields: 0,
+    }
+}
+
+#[no_mangle]
+pub extern "C" fn blend_read(file: &[u8], table: &mut [u64]) -> BlendRead
+    ensures { λ r. ⌜ r ≡ rules.readOut (chains.readAs (chains.fileBy headers.headerBytes (now (file .entry))) (length (now (table .entry)) / chains.perRow)) ⌝ }
+    ensures { λ _. ⌜ now (table .exit) ≡ chains.tableAfter (chains.fileBy headers.headerBytes (now (file .entry))) (now (table .entry)) ⌝ }
+{
+    match blend(file, table) {
+        BlendAnswer::Is(b) => read_out(b),
+        BlendAnswer::Refused(n) => read_refused(n, 0),
+        BlendAnswer::TableTooShort(rows) => read_refused(7, rows as u64),
+    }
+}
+
+fn catalogue_refused(refusal: u64, table: u64, needed: u64) -> BlendCatalogue
+    ensures { λ r. ⌜ r ≡ rules.catalogueOut (refuses refusal (table ∷ needed ∷ [])) ⌝ }
+{
+    BlendCatalogue {
+        refusal: refusal,
+        table: table,
+        needed: needed,
+        names: 0,
+        types: 0,
+        structs: 0,
+        fields: 0,
+    }
+}
+
+fn catalogue_out(answer: DnaTables) -> BlendCatalogue
+    ensures { λ r. ⌜ r ≡ rules.catalogueOut (catalogues.paperTables answer) ⌝ }
+{
+    match answer {
+        DnaTables::Are(n) => BlendCatalogue {
+            refusal: 0,
+            table: 0,
+            needed: 0,
+            names: n.names,
+            types: n.types,
+            structs: n.structs,
+            fields: n.fields,
+        },
+        DnaTables::Malformed => catalogue_refused(2, 0, 0),
+        DnaTables::TableTooShort(which, rows) => catalogue_refused(8, which, rows),
+    }
+}
+
+#[no_mangle]
+pub extern "C" fn blend_catalogue(
+    payload: &[u8],
+    order: u64,
+    names: &mut [u64],
+    types: &mut [u64],
+    structs: &mut [u64],
+    fields: &mut [u64],
+) -> BlendCatalogue
+    ensures { λ r. ⌜ rules.Catalogued (run (catalogues.catalogue (rules.orderOf order)) (now (payload .entry)) 0) r (now (names .entry)) (now (types .entry)) (now (structs .entry)) (now (fields .entry)) (now (names .exit)) (now (types .exit)) (now (structs .exit)) (now (fields .exit)) ⌝ }
+{
+    let answer = dna(payload, order_of(order), names, types, structs, fields);
+    catalogue_out(answer)
+}
+
+fn field_refused(refusal: u64, needed: u64) -> BlendField
+    ensures { λ r. ⌜ r ≡ rules.fieldOut (refuses refusal (needed ∷ [])) ⌝ }
+{
+    BlendField {
+        refusal: refusal,
+        needed: needed,
+        kind: 0,
+        name_at: 0,
+        name_length: 0,
+        rest_at: 0,
+        rest_length: 0,
+        indirection: 0,
+        length: 0,
+        dimensions: 0,
+    }
+}
+
+// A declarator's places, its kind's number and the kind's own numbers.
+fn field_told(
+    name: Place,
+    rest: Place,
+    kind: u64,
+    indirection: u64,
+    length: u64,
+    dimensions: u64,
+) -> BlendField
+    ensures { λ r. ⌜ r ≡ record { refusal = 0; needed = 0; kind = kind; «name_at» = name .at; «name_length» = name .len; «rest_at» = rest .at; «rest_length» = rest .len; indirection = indirection; length = length; dimensions = dimensions } ⌝ }
+{
+    BlendField {
+        refusal: 0,
+        needed: 0,
+        kind: kind,
+        name_at: name.at as u64,
+        name_length: name.len as u64,
+        rest_at: rest.at as u64,
+        rest_length: rest.len as u64,
+        indirection: indirection,
+        length: length,
+        dimensions: dimensions,
+    }
+}
+
+fn field_out(d: Declarator) -> BlendField
+    ensures { λ r. ⌜ r ≡ rules.fieldOut (declarators.paperDeclarator d) ⌝ }
+{
+    let kind = d.kind;
+    let name = d.name;
+    let rest = d.rest;
+    match kind {
+        FieldInfo::Value => field_told(name, rest, 0, 0, 1, 0),
+        FieldInfo::ValueArray { len, dimensions } => field_told(
+            name,
+            rest,
+            1,
+            0,
+            len,
+            dimensions as u64,
+        ),
+        FieldInfo::Pointer { indirection_count } => field_told(
+            name,
+            rest,
+            2,
+            indirection_count as u64,
+            1,
+            0,
+        ),
+        FieldInfo::PointerArray {
+            indirection_count,
+            len,
+            dimensions,
+        } => {
+            field_told(
+                name,
+                rest,
+                3,
+                indirection_count as u64,
+                len,
+                dimensions as u64,
+            )
+        },
+        FieldInfo::FnPointer => field_told(name, rest, 4, 0, 1, 0),
+    }
+}
+
+#[no_mangle]
+pub extern "C" fn blend_field(name: &[u8], dimensions: &mut [u64]) -> BlendField
+    ensures { λ r. ⌜ r ≡ rules.fieldOut (declarators.parsedAs (declarators.declared (now (name .entry))) (length (now (dimensions .entry)))) ⌝ }
+    ensures { λ _. ⌜ now (dimensions .exit) ≡ declarators.filledBy (declarators.declared (now (name .entry))) (now (dimensions .entry)) ⌝ }
+{
+    match parse_field(name, dimensions) {
+        ParsedField::Is(d) => field_out(d),
+        ParsedField::InvalidArraySize => field_refused(9, 0),
+        ParsedField::ProductTooLarge => field_refused(10, 0),
+        ParsedField::DimensionTableTooShort(n) => field_refused(11, n as u64),
+    }
+}
+
+// The kind that its number and its length stand for. A number that is no kind stands for a value.
+fn kind_of(kind: u64, length: u64) -> FieldInfo
+    ensures { λ r. ⌜ r ≡ rules.infoOf kind length ⌝ }
+{
+    if kind == 1 {
+        return FieldInfo::ValueArray {
+            len: length,
+            dimensions: 0,
+        };
+    }
+    if kind == 2 {
+        return FieldInfo::Pointer {
+            indirection_count: 1,
+        };
+    }
+    if kind == 3 {
+        return FieldInfo::PointerArray {
+            indirection_count: 1,
+            len: length,
+            dimensions: 0,
+        };
+    }
+    if kind == 4 {
+        return FieldInfo::FnPointer;
+    }
+    FieldInfo::Value
+}
+
+// The pointer size that a number of bytes stands for: 4, any other 8.
+fn size_of(bytes: u64) -> PointerSize
+    ensures { λ r. ⌜ r ≡ rules.sizeOf bytes ⌝ }
+{
+    if bytes == 4 {
+        PointerSize::Bits32
+    } else {
+        PointerSize::Bits64
+    }
+}
+
+#[no_mangle]
+pub extern "C" fn blend_width(kind: u64, length: u64, size: u64, pointer_bytes: u64) -> BlendValue
+    ensures { λ r. ⌜ r ≡ rules.valueOut (declarators.widthAs (rules.declaratorOf kind length) size (rules.sizeOf «pointer_bytes»)) ⌝ }
+{
+    let none = Place { at: 0, len: 0 };
+    let d = Declarator {
+        name: none,
+        rest: none,
+        kind: kind_of(kind, length),
+    };
+    match width(d, size, size_of(pointer_bytes)) {
+        FieldWidth::Is(n) => BlendValue {
+            refusal: 0,
+            value: n,
+        },
+        FieldWidth::ProductTooLarge => BlendValue {
+            refusal: 10,
+            value: 0,
+        },
+    }
+}
+
+#[no_mangle]
+pub extern "C" fn blend_view(file: &[u8], table: &[u64], row: usize) -> BlendView
+    ensures { λ r. ⌜ r ≡ rules.viewOut (views.viewAs (now (file .entry)) (now (table .entry)) row) (views.cell (now (table .entry)) row 5) (views.cell (now (table .entry)) row 6) ⌝ }
+{
+    if row < table.len() / Row::NUMBERS {
+        match view(file, table, row) {
+            ViewAnswer::There => BlendView {
+                refusal: 0,
+                at: table[row * Row::NUMBERS + 5],
+                length: table[row * Row::NUMBERS + 6],
+            },
+            ViewAnswer::NotThere => BlendView {
+                refusal: 13,
+                at: 0,
+                length: 0,
+            },
+        }
+    } else {
+        BlendView {
+            refusal: 13,
+            at: 0,
+            length: 0,
+        }
+    }
+}
+
+#[no_mangle]
+pub extern "C" fn blend_lookup(table: &[u64], rows: usize, address: u64) -> BlendPointer
+    ensures { λ r. ⌜ r ≡ rules.pointerOut (lookupAs (now (table .entry)) rows address) ⌝ }
+{
+    match get_ptr(table, rows, address) {
+        Pointer::Null => BlendPointer {
+            refusal: 0,
+            kind: 0,
+            row: 0,
+        },
+        Pointer::Block(row) => BlendPointer {
+            refusal: 0,
+            kind: 1,
+            row: row as u64,
+        },
+        Pointer::Missing => BlendPointer {
+            refusal: 0,
+            kind: 2,
+            row: 0,
+        },
+        Pointer::NotThere => BlendPointer {
+            refusal: 13,
+            kind: 0,
+            row: 0,
+        },
+    }
+}
+
+#[no_mangle]
+pub extern "C" fn blend_u8(slice: &[u8], order: u64) -> BlendValue
+    ensures { λ r. ⌜ r ≡ rules.valueOut (valueOf 1 unsigned (rules.orderOf order) (now (slice .entry))) ⌝ }
+{
+    match parse_u8(slice, order_of(order)) {
+        ValueU8::Is(n) => BlendValue {
+            refusal: 0,
+            value: n as u64,
+        },
+        ValueU8::Short => BlendValue {
+            refusal: 12,
+            value: 0,
+        },
+    }
+}
+
+#[no_mangle]
+pub extern "C" fn blend_u16(slice: &[u8], order: u64) -> BlendValue
+    ensures { λ r. ⌜ r ≡ rules.valueOut (valueOf 2 unsigned (rules.orderOf order) (now (slice .entry))) ⌝ }
+{
+    match parse_u16(slice, order_of(order)) {
+        ValueU16::Is(n) => BlendValue {
+            refusal: 0,
+            value: n as u64,
+        },
+        ValueU16::Short => BlendValue {
+            refusal: 12,
+            value: 0,
+        },
+    }
+}
+
+#[no_mangle]
+pub extern "C" fn blend_u32(slice: &[u8], order: u64) -> BlendValue
+    ensures { λ r. ⌜ r ≡ rules.valueOut (valueOf 4 unsigned (rules.orderOf order) (now (slice .entry))) ⌝ }
+{
+    match parse_u32(slice, order_of(order)) {
+        ValueU32::Is(n) => BlendValue {
+            refusal: 0,
+            value: n as u64,
+        },
+        ValueU32::Short => BlendValue {
+            refusal: 12,
+            value: 0,
+        },
+    }
+}
+
+#[no_mangle]
+pub extern "C" fn blend_u64(slice: &[u8], order: u64) -> BlendValue
+    ensures { λ r. ⌜ r ≡ rules.valueOut (valueOf 8 unsigned (rules.orderOf order) (now (slice .entry))) ⌝ }
+{
+    match parse_u64(slice, order_of(order)) {
+        ValueU64::Is(n) => BlendValue {
+            refusal: 0,
+            value: n,
+        },
+        ValueU64::Short => BlendValue {
+            refusal: 12,
+            value: 0,
+        },
+    }
+}
