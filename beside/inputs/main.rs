@@ -1,0 +1,76 @@
+//! Inputs for the oracle and for the side it is compared with.
+//!
+//! usage: inputs SEED COUNT [FILE ..] > batch
+//!
+//! COUNT inputs come from the seed alone; document 01's examples and the files that are given come before them. The shares, in hundredths of
+//! COUNT:
+//!
+//! - 24, declarators: all short ones over `()*[]+-019a` (up to 4 bytes of 200,000, up to 5 of 1,000,000), then longer ones with several
+//!   dimensions, numbers and products around 2^64, spaces, bytes that are not UTF-8.
+//! - 4, headers: document 01's examples, every cut, each byte left out or written over, before blocks that are read.
+//! - 17, scenes that are read, an eighth in each form: blocks of all codes, several DNA1 blocks, catalogues of any names, sizes and
+//!   padding, end marks inside payloads, bytes after the end mark.
+//! - 27, damaged scenes: a byte changed, dropped or put in; a cut; wrong sizes, addresses, counts, codes, catalogues, ends.
+//! - 4, a small scene in each form with each byte written over.
+//! - 11, catalogues in either order, half of them damaged, with counts up to 2^32-1.
+//! - 6, slices for primitive values.
+//! - 7, searches for an address.
+
+mod addresses;
+mod batch;
+mod catalogues;
+mod damage;
+mod declarators;
+mod edges;
+mod given;
+mod headers;
+mod mutations;
+mod random;
+mod scenes;
+mod values;
+
+use batch::Batch;
+use random::Random;
+use std::io::{self, Stdout};
+
+type Section = fn(&mut Random, usize, &mut Batch<Stdout>) -> io::Result<()>;
+
+const SECTIONS: [(usize, Section); 8] = [
+    (24, declarators::write),
+    (4, headers::write),
+    (17, scenes::write),
+    (27, damage::write),
+    (4, mutations::write),
+    (11, catalogues::write),
+    (6, values::write),
+    (7, addresses::write),
+];
+
+fn main() {
+    let arguments: Vec<String> = std::env::args().skip(1).collect();
+    let number = |at: usize| arguments.get(at).and_then(|text| text.parse::<u64>().ok());
+    let outcome = match (number(0), number(1)) {
+        (Some(seed), Some(count)) => run(seed, count as usize, &arguments[2..]),
+        _ => Err(io::Error::new(io::ErrorKind::InvalidInput, "usage: inputs SEED COUNT [FILE ..] > batch")),
+    };
+    if let Err(error) = outcome {
+        eprintln!("inputs: {}", error);
+        std::process::exit(2);
+    }
+}
+
+fn run(seed: u64, count: usize, files: &[String]) -> io::Result<()> {
+    eprintln!("seed {}", seed);
+    let mut batch = Batch::new(io::stdout());
+    edges::write(&mut batch)?;
+    given::write(files, &mut batch)?;
+    let (mut share, mut done) = (0, 0);
+    for (number, (hundredths, section)) in SECTIONS.iter().enumerate() {
+        // Each section has numbers of its own, so that a change of one leaves the others' inputs as they were.
+        let mut random = Random::new(seed.wrapping_add((number as u64).wrapping_mul(0x5851_f42d_4c95_7f2d)));
+        share += hundredths;
+        section(&mut random, count * share / 100 - done, &mut batch)?;
+        done = count * share / 100;
+    }
+    batch.flush()
+}

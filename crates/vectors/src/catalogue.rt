@@ -1,0 +1,219 @@
+// Catalogues: the counts, and a line for each row of the four tables.
+use crate::out::SIZE;
+use crate::out::bytes;
+use crate::out::end;
+use crate::out::number;
+use crate::out::text;
+use crate::out::word;
+use dna::dna::DnaCounted;
+use dna::dna::DnaCounts;
+use dna::dna::DnaTables;
+use dna::dna::dna;
+use dna::dna::dna_counts;
+use primitive::Endianness;
+
+// What a line for each row of a table is to say.
+enum Line {
+    Name,
+    Type,
+    Struct,
+    Field,
+}
+
+// A number of a table with two or three numbers per row; the rows that are asked for are there.
+fn of_two(table: &[u64], row: usize, i: usize) -> u64 {
+    if i < 2 {
+        if row < table.len() / 2 {
+            return table[row * 2 + i];
+        }
+    }
+    0
+}
+
+fn of_three(table: &[u64], row: usize, i: usize) -> u64 {
+    if i < 3 {
+        if row < table.len() / 3 {
+            return table[row * 3 + i];
+        }
+    }
+    0
+}
+
+// A name's length and bytes, by its place in the payload.
+fn name(space: &mut [u8; SIZE], at: &mut usize, payload: &[u8], from: usize, len: usize) {
+    word(space, at, len as u64);
+    if from <= payload.len() {
+        if len <= payload.len() - from {
+            if 0 < len {
+                text(space, at, b" ");
+            }
+            let to = from + len;
+            bytes(space, at, &payload[from..to]);
+            return;
+        }
+    }
+    text(space, at, b" outside");
+}
+
+fn name_line(space: &mut [u8; SIZE], at: &mut usize, payload: &[u8], table: &[u64], row: usize) {
+    let from = of_two(table, row, 0) as usize;
+    let len = of_two(table, row, 1) as usize;
+    text(space, at, b"name");
+    name(space, at, payload, from, len);
+    end(space, at);
+}
+
+fn type_line(space: &mut [u8; SIZE], at: &mut usize, payload: &[u8], table: &[u64], row: usize) {
+    let from = of_three(table, row, 0) as usize;
+    let len = of_three(table, row, 1) as usize;
+    number(space, at, b"type ", of_three(table, row, 2));
+    name(space, at, payload, from, len);
+    end(space, at);
+}
+
+fn struct_line(space: &mut [u8; SIZE], at: &mut usize, table: &[u64], row: usize) {
+    number(space, at, b"struct ", of_three(table, row, 0));
+    word(space, at, of_three(table, row, 1));
+    word(space, at, of_three(table, row, 2));
+    end(space, at);
+}
+
+fn field_line(space: &mut [u8; SIZE], at: &mut usize, table: &[u64], row: usize) {
+    number(space, at, b"field ", of_two(table, row, 0));
+    word(space, at, of_two(table, row, 1));
+    end(space, at);
+}
+
+fn row_line(
+    space: &mut [u8; SIZE],
+    at: &mut usize,
+    kind: Line,
+    payload: &[u8],
+    table: &[u64],
+    row: usize,
+) {
+    match kind {
+        Line::Name => name_line(space, at, payload, table, row),
+        Line::Type => type_line(space, at, payload, table, row),
+        Line::Struct => struct_line(space, at, table, row),
+        Line::Field => field_line(space, at, table, row),
+    }
+}
+
+fn lines(
+    space: &mut [u8; SIZE],
+    at: &mut usize,
+    kind: Line,
+    payload: &[u8],
+    table: &[u64],
+    rows: u64,
+) {
+    let n = rows as usize;
+    let mut row = 0;
+    while row < n {
+        row_line(space, at, kind, payload, table, row);
+        row += 1;
+    }
+}
+
+pub fn counts(space: &mut [u8; SIZE], at: &mut usize, n: DnaCounts) {
+    word(space, at, n.names);
+    word(space, at, n.types);
+    word(space, at, n.structs);
+    word(space, at, n.fields);
+}
+
+// The place after the last struct.
+fn last(space: &mut [u8; SIZE], at: &mut usize, payload: &[u8], order: Endianness) {
+    match dna_counts(payload, order) {
+        DnaCounted::Are(_, n) => word(space, at, n as u64),
+        DnaCounted::Stopped(_) => text(space, at, b" refused 2"),
+    }
+}
+
+fn read_lines(
+    space: &mut [u8; SIZE],
+    at: &mut usize,
+    payload: &[u8],
+    order: Endianness,
+    n: DnaCounts,
+    names: &[u64],
+    types: &[u64],
+    structs: &[u64],
+    fields: &[u64],
+) {
+    text(space, at, b"dna");
+    counts(space, at, n);
+    last(space, at, payload, order);
+    end(space, at);
+    lines(space, at, Line::Name, payload, names, n.names);
+    lines(space, at, Line::Type, payload, types, n.types);
+    lines(space, at, Line::Struct, payload, structs, n.structs);
+    lines(space, at, Line::Field, payload, fields, n.fields);
+}
+
+fn too_short_line(space: &mut [u8; SIZE], at: &mut usize, which: u64, rows: u64) {
+    number(space, at, b"refused 8 ", which);
+    word(space, at, rows);
+    end(space, at);
+}
+
+// With tables for the catalogue of a real scene.
+fn large(space: &mut [u8; SIZE], at: &mut usize, payload: &[u8], order: Endianness) {
+    let mut names = [0u64; 5000 * 2];
+    let mut types = [0u64; 1000 * 3];
+    let mut structs = [0u64; 1000 * 3];
+    let mut fields = [0u64; 9000 * 2];
+    match dna(
+        payload,
+        order,
+        &mut names,
+        &mut types,
+        &mut structs,
+        &mut fields,
+    ) {
+        DnaTables::Are(n) => read_lines(
+            space,
+            at,
+            payload,
+            order,
+            n,
+            &names,
+            &types,
+            &structs,
+            &fields,
+        ),
+        DnaTables::Malformed => text(space, at, b"refused 2\n"),
+        DnaTables::TableTooShort(which, rows) => too_short_line(space, at, which, rows),
+    }
+}
+
+// Most catalogues are small, and so are the tables that are made for each.
+pub fn answer(space: &mut [u8; SIZE], at: &mut usize, payload: &[u8], order: Endianness) {
+    let mut names = [0u64; 64 * 2];
+    let mut types = [0u64; 64 * 3];
+    let mut structs = [0u64; 64 * 3];
+    let mut fields = [0u64; 128 * 2];
+    match dna(
+        payload,
+        order,
+        &mut names,
+        &mut types,
+        &mut structs,
+        &mut fields,
+    ) {
+        DnaTables::Are(n) => read_lines(
+            space,
+            at,
+            payload,
+            order,
+            n,
+            &names,
+            &types,
+            &structs,
+            &fields,
+        ),
+        DnaTables::Malformed => text(space, at, b"refused 2\n"),
+        DnaTables::TableTooShort(_, _) => large(space, at, payload, order),
+    }
+}
