@@ -1,16 +1,18 @@
 /* Reading .blend files: the functions of libexports.a (x86-64 Linux, the C calling convention).
  *
- * Every function takes any bytes and any numbers and returns; none keeps a pointer, allocates or writes anywhere but in the tables that it is lent. A
- * slice is a pointer and the number of its elements; of an empty one the pointer is not used, but must not be null. Tables must not overlap each other or
- * the bytes that are read.
+ * A slice goes in as a pointer and the number of its elements, which must be there. For any bytes in them, and any other numbers, every function returns; none keeps a
+ * pointer, allocates, or writes anywhere but in the tables that it is lent, which may be uninitialised. No pointer may be null, also not that of a slice of no
+ * elements. Tables must not overlap each other or the bytes that are read, unless they have no elements; tables are of uint64_t, aligned as such. Nothing is
+ * shared between calls, so they may be made from any thread.
  *
- * In every answer `refusal` is 0, or the number of the refusal; then the tables hold what they held, and all that the refusal does not carry is 0:
+ * In every answer `refusal` is 0, or the number of a refusal. On a refusal the tables hold what they held, and every number of the answer that the refusal does not
+ * carry is 0 and says nothing: look at `refusal` first. On an answer `needed` and `table` are 0, and a table's numbers past those used are as they were.
  *
  *    1  the file does not begin with "BLENDER": it is compressed, or no .blend file
  *    2  malformed: a byte is missing, or a mark is wrong
  *    3  a block whose address is 0
- *    4  a principal block whose count is not 1
- *    5  a block whose code is none of those that are known
+ *    4  a principal block (two bytes and then two zeros for a code, as objects have it) whose count is not 1
+ *    5  a block whose code is none of REND, TEST, GLOB, DATA, DNA1 and those of principal blocks
  *    6  the last block is not DNA1, or there is none
  *    7  the row table is too short; `needed` has the rows that the file needs
  *    8  a catalogue table is too short; `table` says which (1 names, 2 types, 3 structs, 4 fields), `needed` the rows that it needs
@@ -20,9 +22,22 @@
  *   12  a value's slice is too short
  *   13  a row, or the bytes that it tells of, are not there
  *
- * Orders are 0 for little and 1 for big; where one is asked for, any number but 0 is big. How large a table must be is learnt from a first call with a
- * table of no rows: 7 and 8 carry the rows that are needed (8 the first of the four tables that is too short). A row takes 7 numbers in the row
- * table, 2 in names and fields, 3 in types and structs; a table's rows are its length divided by that, rounded down.
+ * The earliest fault is reported; 7, 8 and 11 come only when all else reads (but 11 before 10).
+ *
+ * Tables: a row takes 7 numbers in the row table, 3 in types and structs, 2 in names and fields (below); a table's rows are its length divided by that, rounded
+ * down. `needed` counts rows (7, 8) or dimensions (11), a table's length numbers. To read a file of any size:
+ *
+ *     uint64_t none[1];
+ *     struct blend_read r = blend_read(file, length, none, 0);
+ *     if (r.refusal == 7) {
+ *         numbers = r.needed * BLEND_ROW;
+ *         table = malloc(numbers * sizeof *table);
+ *         r = blend_read(file, length, table, numbers);
+ *     }
+ *
+ * r.rows - 1 is then the row of the last DNA1, and r.names, r.types, r.structs and r.fields are the rows that its catalogue's tables need.
+ *
+ * Byte orders are 0 for little and 1 for big; where one is asked for, any number but 0 is big.
  */
 #ifndef BLEND_H
 #define BLEND_H
@@ -30,38 +45,43 @@
 #include <stddef.h>
 #include <stdint.h>
 
+#ifdef __cplusplus
+extern "C" {
+#endif
+
 #define BLEND_ROW 7 /* numbers to a row */
 #define BLEND_NAME 2
 #define BLEND_TYPE 3
 #define BLEND_STRUCT 3
 #define BLEND_FIELD 2
 
-/* The header: edition 0 legacy, 1 new; 4 or 8 bytes to a pointer; the order; the version; and the header's length, 12 or 17. Refusals 1, 2. */
+/* The header: edition 0 legacy, 1 new; 4 or 8 bytes to a pointer; the byte order; the version; and the header's length, 12 or 17. Refusals 1, 2. */
 struct blend_header {
     uint64_t refusal, edition, pointer_bytes, order, major, minor, length;
 };
 struct blend_header blend_header(const uint8_t *file, size_t length);
 
-/* The whole file: the header, how many rows (one to a block, in the file's order), the offset after the end mark, and the counts of the last DNA1's
+/* The whole file: what its header says, how many rows (one to a block, as they stand in the file), the offset after the end mark, and the counts of the last DNA1's
  * catalogue. Into the table go for each row: the code (first byte most significant), the address, the index, the count, the offset of the block header, the
- * offset of the payload, the length of the payload. Refusals 1 to 7. */
+ * offset of the payload, the length of the payload. Offsets are the file's. Refusals 1 to 7. */
 struct blend_read {
     uint64_t refusal, needed, edition, pointer_bytes, order, major, minor, rows, end, names, types, structs, fields;
 };
 struct blend_read blend_read(const uint8_t *file, size_t length, uint64_t *table, size_t numbers);
 
-/* The catalogue of a DNA1's payload, in the file's order. Into the tables go: of a name its offset in the payload and its length; of a type the same of its
- * name, and its size; of a struct its type's number, its first row in the fields, and how many fields it has; of a field its type's number and its
- * name's number. The numbers of types and names are as the file has them: they may lie past the end of their list. Refusals 2, 8. */
+/* The catalogue of a DNA1's payload (by blend_view), in the file's byte order. Into the tables go: of a name its offset in the payload and its length; of a type the same
+ * of its name, and its size; of a struct its type's number, its first row in the fields, and how many fields it has; of a field its type's number and its
+ * name's number. The numbers of types and names are as the file has them: they may lie past the end of their list. 8 names the first of the four tables that is
+ * too short, so an earlier DNA1 may take four calls to size. Refusals 2, 8. */
 struct blend_catalogue {
     uint64_t refusal, table, needed, names, types, structs, fields;
 };
 struct blend_catalogue blend_catalogue(const uint8_t *payload, size_t length, uint64_t order, uint64_t *names, size_t names_numbers, uint64_t *types,
                                        size_t types_numbers, uint64_t *structs, size_t structs_numbers, uint64_t *fields, size_t fields_numbers);
 
-/* What a field's name says: kind 0 a value, 1 an array, 2 a pointer, 3 an array of pointers, 4 a function pointer; where the bare name and the rest stand in
- * it; how many asterisks a pointer has; the length of an array, the product of its dimensions, and how many there are. They go into the table, in order.
- * A kind that has none of these numbers has 0, 1 and 0. Refusals 9, 11, 10, in this order. */
+/* What a field's name says: kind 0 a value, 1 an array, 2 a pointer, 3 an array of pointers, 4 a function pointer; where the bare name stands in it, and what was left
+ * over after it (the rest, mostly nothing); how many asterisks (0 for no pointer); the length of an array, which is the product of its dimensions (1 for no
+ * array), and how many dimensions there are (0 for no array). The dimensions go into the table, in order. Refusals 9, 11, 10, in this order. */
 struct blend_field {
     uint64_t refusal, needed, kind, name_at, name_length, rest_at, rest_length, indirection, length, dimensions;
 };
@@ -72,8 +92,8 @@ struct blend_value {
     uint64_t refusal, value;
 };
 
-/* How many bytes a field takes, by its kind and length as blend_field tells them, the size of its type, and the bytes to a pointer (4, or any other number for
- * 8). A number that is no kind counts as a value. Refusal 10. */
+/* How many bytes a field takes, by its kind and length as blend_field tells them, the size of its type, and the bytes to a pointer (4, or any other number for 8). The
+ * length counts for arrays, the type's size for values and arrays of them. A number that is no kind counts as a value. Refusal 10. */
 struct blend_value blend_width(uint64_t kind, uint64_t length, uint64_t size, uint64_t pointer_bytes);
 
 /* Where a row's payload stands in the file, if the table has the row and the file that part. Refusal 13. */
@@ -82,8 +102,8 @@ struct blend_view {
 };
 struct blend_view blend_view(const uint8_t *file, size_t length, const uint64_t *table, size_t numbers, size_t row);
 
-/* What an address leads to among the first rows of the table: kind 0 null (address 0), 1 the row, 2 nothing. Only principal blocks and DATA blocks are found.
- * Refusal 13 where the table has fewer rows. */
+/* What an address leads to among the first `rows` rows of the table (as many as blend_read answered): kind 0 null (address 0), 1 the first row with just that address, 2
+ * nothing; `row` says something for kind 1 alone. Only principal and DATA blocks are found. Refusal 13, before null, where the table has fewer rows. */
 struct blend_pointer {
     uint64_t refusal, kind, row;
 };
@@ -95,5 +115,9 @@ struct blend_value blend_u8(const uint8_t *bytes, size_t length, uint64_t order)
 struct blend_value blend_u16(const uint8_t *bytes, size_t length, uint64_t order);
 struct blend_value blend_u32(const uint8_t *bytes, size_t length, uint64_t order);
 struct blend_value blend_u64(const uint8_t *bytes, size_t length, uint64_t order);
+
+#ifdef __cplusplus
+}
+#endif
 
 #endif

@@ -1,5 +1,5 @@
--- What the functions for other languages answer: the paper of the reader's answer as a struct of numbers. `refusal` is 0 or the refusal's number, and what an
--- answer does not tell is 0.
+-- What the functions for other languages answer: the paper of the reader's answer as a struct of numbers. `refusal` is 0 or the refusal's number, and on a
+-- refusal every number that it does not carry is 0. Papers of one whole number or float (`integer`, `real`) are none of these calls'.
 use Prim.Native.Nat.{ℕ}
 use mathlib.Core.Bool.{true, false}
 use mathlib.Core.List.{List, []}
@@ -85,7 +85,7 @@ pub record Catalogued (o : Outcome Dna) (r : BlendCatalogue) (names types struct
   pub in-fields : fields′ ≡ fieldsTable o (rooms (length names) (length types) (length structs) (length fields)) fields
 
 -- A declarator's kind (0 value, 1 array, 2 pointer, 3 pointer array, 4 function pointer), the places of its name and its rest, and indirection, length and
--- number of dimensions: 0, 1 and 0 where the kind has none.
+-- number of dimensions, each where the kind has it: 0, 1 and 0 where it has not.
 abbrev pub indirectionOf : ℕ → List ℕ → ℕ
 indirectionOf kind vs = elim (eqb kind 2) [ true ↦ getD vs 4 0 | false ↦ elim (eqb kind 3) [ true ↦ getD vs 4 0 | false ↦ 0 ] ]
 

@@ -1,5 +1,5 @@
 // The library for other languages: numbers and slices in, a struct of numbers by value out. Each function calls one of the reader's and tells its answer
-// in document 01's numbers; the contract says so by the reader's own definitions. A slice crosses as a pointer and a length. blend.h says what each
+// in numbers, refusals by document 01's; the contract says so by the reader's own definitions. A slice crosses as a pointer and a length. blend.h says what each
 // function is for.
 use blend::FileFormat;
 use blend::Header;
@@ -47,7 +47,7 @@ ghost use Rattle.blend.specs.Header as headers;
 ghost use Rattle.blend.specs.Views as views;
 ghost use Rattle.exports.specs.Exports as rules;
 
-// In every struct `refusal` is 0, or the number of the refusal; then all that it does not carry is 0.
+// In every struct `refusal` is 0, or the number of a refusal, and then every number that it does not carry is 0.
 #[repr(C)]
 pub struct BlendHeader {
     pub refusal: u64,
