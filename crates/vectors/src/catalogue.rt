@@ -152,68 +152,71 @@ fn read_lines(
     lines(space, at, Line::Field, payload, fields, n.fields);
 }
 
-fn too_short_line(space: &mut [u8; SIZE], at: &mut usize, which: u64, rows: u64) {
-    number(space, at, b"refused 8 ", which);
-    word(space, at, rows);
-    end(space, at);
+// Answers with the tables that are lent, or, where one of them is too short, nothing. Whether they were long enough.
+fn answer_in(
+    space: &mut [u8; SIZE],
+    at: &mut usize,
+    payload: &[u8],
+    order: Endianness,
+    names: &mut [u64],
+    types: &mut [u64],
+    structs: &mut [u64],
+    fields: &mut [u64],
+) -> bool {
+    match dna(payload, order, names, types, structs, fields) {
+        DnaTables::Are(n) => {
+            read_lines(space, at, payload, order, n, names, types, structs, fields);
+            true
+        }
+        DnaTables::Malformed => {
+            text(space, at, b"refused 2\n");
+            true
+        }
+        DnaTables::TableTooShort(_, _) => false,
+    }
 }
 
 // With tables for the catalogue of a real scene.
-fn large(space: &mut [u8; SIZE], at: &mut usize, payload: &[u8], order: Endianness) {
+fn large(space: &mut [u8; SIZE], at: &mut usize, payload: &[u8], order: Endianness) -> bool {
     let mut names = [0u64; 5000 * 2];
     let mut types = [0u64; 1000 * 3];
     let mut structs = [0u64; 1000 * 3];
     let mut fields = [0u64; 9000 * 2];
-    match dna(
+    answer_in(
+        space,
+        at,
         payload,
         order,
         &mut names,
         &mut types,
         &mut structs,
         &mut fields,
-    ) {
-        DnaTables::Are(n) => read_lines(
-            space,
-            at,
-            payload,
-            order,
-            n,
-            &names,
-            &types,
-            &structs,
-            &fields,
-        ),
-        DnaTables::Malformed => text(space, at, b"refused 2\n"),
-        DnaTables::TableTooShort(which, rows) => too_short_line(space, at, which, rows),
-    }
+    )
 }
 
 // Most catalogues are small, and so are the tables that are made for each.
-pub fn answer(space: &mut [u8; SIZE], at: &mut usize, payload: &[u8], order: Endianness) {
+fn small(space: &mut [u8; SIZE], at: &mut usize, payload: &[u8], order: Endianness) -> bool {
     let mut names = [0u64; 64 * 2];
     let mut types = [0u64; 64 * 3];
     let mut structs = [0u64; 64 * 3];
     let mut fields = [0u64; 128 * 2];
-    match dna(
+    answer_in(
+        space,
+        at,
         payload,
         order,
         &mut names,
         &mut types,
         &mut structs,
         &mut fields,
-    ) {
-        DnaTables::Are(n) => read_lines(
-            space,
-            at,
-            payload,
-            order,
-            n,
-            &names,
-            &types,
-            &structs,
-            &fields,
-        ),
-        DnaTables::Malformed => text(space, at, b"refused 2\n"),
-        DnaTables::TableTooShort(_, _) => large(space, at, payload, order),
+    )
+}
+
+pub fn answer(space: &mut [u8; SIZE], at: &mut usize, payload: &[u8], order: Endianness) {
+    if small(space, at, payload, order) {
+        return;
+    }
+    if !large(space, at, payload, order) {
+        text(space, at, b"refused 8\n");
     }
 }
