@@ -76,6 +76,9 @@ module _ (h : Header) (s : List ℕ) (from rows : ℕ) (n : DnaCounts) (end : �
   pub rows-fit : (t : List ℕ) → rows ≤ length t / 7 → length (rowTable (rowsFrom rows h s from)) ≤ length t
   rows-fit t g = rw rows-same (rows-long t g)
 
+  pub rows-all : length (rowsFrom rows h s from) ≡ rows
+  rows-all = ap length rows-same ∙ summed-ends (chainFrom h s from) rows n end e .1
+
   pub rows-written : (t t′ : List ℕ) → rows ≤ length t / 7 → t′ ≡ put t 0 (rowTable (rowsFrom rows h s from)) → t′ ≡ over (rowTable (chainFrom h s from .rows)) t
   rows-written t t′ g w = w ∙ ap (λ (rs : List Row). put t 0 (rowTable rs)) rows-same ∙ put-over t (rowTable (chainFrom h s from .rows)) (rows-long t g)
 

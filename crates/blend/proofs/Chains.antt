@@ -202,14 +202,6 @@ module _ (h : Header) (s : List ℕ) (left at : ℕ) where
       let k : left ≡ suc (left - 1) = omega arith in
       ap (λ (n : ℕ). rowTable (rowsFrom n h s at)) k ∙ ap (λ (o : Outcome Row). rowTable (goOn o (rowsFrom (left - 1) h s))) g
 
-  pub rows-stop : (x : Fault) → rowAt h s at ≡ fault x → rowTable (rowsFrom left h s at) ≡ []
-  unfolding rowTable rowsFrom
-  rows-stop x g = go left
-    where
-      go : (n : ℕ) → rowTable (rowsFrom n h s at) ≡ []
-      go zero = refl
-      go (suc n) = ap (λ (o : Outcome Row). rowTable (goOn o (rowsFrom n h s))) g
-
   pub rows-none : left ≤ 0 → rowTable (rowsFrom left h s at) ≡ []
   unfolding rowTable rowsFrom
   rows-none e =

@@ -4,6 +4,7 @@ pub mod Codes
 pub mod Headers
 pub mod Layouts
 pub mod Rows
+pub mod There
 pub mod Chains
 pub mod Lossless
 pub mod Answers

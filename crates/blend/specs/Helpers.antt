@@ -1,16 +1,20 @@
 -- What inner functions ensure, and how the answers of reads stand to the rules. No rule uses it.
 use Prim.Native.Nat.{ℕ, zero, suc, _+_}
+use mathlib.Core.Bool.{true, false}
 use mathlib.Core.List.{List, [], _++_}
-use lib.ListN.{length}
+use lib.Dec.{eqb}
+use lib.ListN.{length, take, drop}
 use Rattle.primitive.specs.declared.Endianness.{Endianness}
-use Rattle.primitive.specs.declared.Endianness.the-variants.{Little}
+use Rattle.primitive.specs.declared.Endianness.the-variants.{Little, Big}
+use Rattle.primitive.specs.declared.Fault.the-variants.{Refusal}
 use Rattle.primitive.specs.declared.PointerSize.{PointerSize}
 use Rattle.primitive.specs.Helpers.{goOn}
-use Rattle.primitive.specs.Number.{number}
+use Rattle.primitive.specs.Number.{spelled, number}
 use Rattle.primitive.specs.PointerSize.{pointerBytes}
 use Rattle.primitive.specs.Reader.{Reader, Outcome}
 use Rattle.primitive.specs.Reader.Reader.{done, refuse, bytes}
 use Rattle.primitive.specs.Reader.Outcome.{read, fault}
+use Rattle.primitive.specs.Refusals.{invalidMemoryAddress}
 use Rattle.dna.specs.declared.dna.DnaCounts.{DnaCounts}
 use Rattle.blend.specs.declared.FileFormat.{FileFormat}
 use Rattle.blend.specs.declared.FileFormat.the-variants.{Legacy, New}
@@ -64,6 +68,36 @@ made New code a n b c = record { code = code; size = b; address = n; index = a; 
 abbrev pub four : Header → ℕ → ℕ → Endianness → Reader BlockHeader
 four h code w e =
     number e 4 (λ a. number (h .endianness) (pointerBytes (h .«pointer_size»)) (λ n. tested address n (number e w (λ b. number e w (λ c. done (made (h .format) code a n b c))))))
+
+-- the number of w bytes that stands at a place
+abbrev pub numberAt : Endianness → ℕ → List ℕ → ℕ → ℕ
+numberAt e w s at = spelled e (take w (drop at s))
+
+-- a block header all of which stands at a place; p is how many bytes its address has
+abbrev pub headerOf : FileFormat → ℕ → Endianness → List ℕ → ℕ → BlockHeader
+headerOf Legacy p e s at =
+    record {
+      code = numberAt Big 4 s at;
+      size = numberAt e 4 s (at + 4);
+      address = numberAt e p s (at + 8);
+      index = numberAt e 4 s (at + 8 + p);
+      count = numberAt e 4 s (at + 8 + p + 4);
+    }
+headerOf New p e s at =
+    record {
+      code = numberAt Big 4 s at;
+      size = numberAt Little 8 s (at + 8 + p);
+      address = numberAt e p s (at + 8);
+      index = numberAt Little 4 s (at + 4);
+      count = numberAt Little 8 s (at + 8 + p + 8);
+    }
+
+abbrev pub headerAt : Header → List ℕ → ℕ → BlockHeader
+headerAt h s at = headerOf (h .format) (pointerBytes (h .«pointer_size»)) (h .endianness) s at
+
+-- a block header that stands there, unless its address is 0
+abbrev pub withAddress : BlockHeader → ℕ → Outcome BlockHeader
+withAddress b next = elim (eqb (b .address) 0) [ true ↦ fault (Refusal invalidMemoryAddress) | false ↦ read b next ]
 
 -- a New header from its second pair of unchecked bytes on; `a` is the first pair
 abbrev pub newOrder : PointerSize → List ℕ → Reader HeaderBytes

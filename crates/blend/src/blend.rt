@@ -17,9 +17,13 @@ use primitive::cursor::Moved;
 use primitive::cursor::Numbered;
 use primitive::cursor::Width;
 use primitive::cursor::stands_at;
+use primitive::primitive::ValueU32;
+use primitive::primitive::ValueU64;
+use primitive::primitive::parse_u32;
+use primitive::primitive::parse_u64;
 ghost use mathlib.Core.Path.{_≡_};
 ghost use mathlib.Core.List.{List, [], _∷_};
-ghost use Prim.Native.Nat.{ℕ, _+_, _*_, _/_, _≤_};
+ghost use Prim.Native.Nat.{ℕ, _+_, _*_, _/_, _^_, _≤_, _<_};
 ghost use lib.ListN.{length, take, drop};
 ghost use Rattle.primitive.specs.Reader.{run};
 ghost use Rattle.primitive.specs.Reader.Reader.{done, bytes};
@@ -34,7 +38,7 @@ ghost use Rattle.blend.specs.Blocks as blocks;
 ghost use Rattle.blend.specs.Chain as chains;
 ghost use Rattle.primitive.specs.Tables.{written};
 ghost use Rattle.blend.specs.Helpers as helpers;
-ghost use Rattle.blend.specs.Helpers.{headerRead, newOrder, otherWidth, otherOrder, four, blockHeaderRead, taking, rowRead, memoryAddress, summed, summedAs, rowsFrom};
+ghost use Rattle.blend.specs.Helpers.{headerRead, newOrder, otherWidth, otherOrder, four, numberAt, headerAt, withAddress, blockHeaderRead, taking, rowRead, memoryAddress, summed, summedAs, rowsFrom};
 
 // What a mark stands for, or a version, or a header, and the place after it.
 pub enum PointerSizeRead {
@@ -313,8 +317,8 @@ fn four_numbers(
     }
 }
 
-// A block header of either edition.
-fn block_header(c: Cursor, s: &[u8], h: Header) -> BlockHeaderRead
+// A block header of either edition, read by read: what stops it first, where not all of it is there.
+fn header_by_reads(c: Cursor, s: &[u8], h: Header) -> BlockHeaderRead
     ensures { λ r. ⌜ blockHeaderRead r ≡ run (blocks.blockHeader h) (now (s .entry)) (c .at) ⌝ }
 {
     let format = h.format;
@@ -329,6 +333,139 @@ fn block_header(c: Cursor, s: &[u8], h: Header) -> BlockHeaderRead
             other_width(format),
             other_order(format, order),
         ),
+    }
+}
+
+// A number of four bytes, and of eight, that stands at a place.
+fn word(s: &[u8], at: usize, order: Endianness) -> u64
+    requires { ⌜ at + 4 ≤ length (now s) ⌝ }
+    ensures { λ r. ⌜ r ≡ numberAt order 4 (now (s .entry)) at ⌝ }
+{
+    match parse_u32(&s[at..at + 4], order) {
+        ValueU32::Is(n) => n as u64,
+        ValueU32::Short => 0,
+    }
+}
+
+fn long(s: &[u8], at: usize, order: Endianness) -> u64
+    requires { ⌜ at + 8 ≤ length (now s) ⌝ }
+    ensures { λ r. ⌜ r ≡ numberAt order 8 (now (s .entry)) at ⌝ }
+{
+    match parse_u64(&s[at..at + 8], order) {
+        ValueU64::Is(n) => n,
+        ValueU64::Short => 0,
+    }
+}
+
+// Where the last two numbers of a block header stand that starts at a place.
+fn last_two(at: usize, h: Header) -> usize
+    requires { ⌜ at < 2 ^ 63 ⌝ }
+    ensures { λ r. ⌜ r ≡ at + 8 + pointerBytes (h .«pointer_size») ⌝ }
+{
+    let size = h.pointer_size;
+    at + 8 + size.bytes_num()
+}
+
+// The numbers of a block header all of which stands at a place.
+fn size_there(s: &[u8], at: usize, h: Header) -> u64
+    requires { ⌜ at + blocks.blockHeaderLength (h .format) (h .«pointer_size») ≤ length (now s) ⌝ }
+    ensures { λ r. ⌜ r ≡ headerAt h (now (s .entry)) at .size ⌝ }
+{
+    let order = h.endianness;
+    let format = h.format;
+    match format {
+        FileFormat::Legacy => word(s, at + 4, order),
+        FileFormat::New => long(s, last_two(at, h), Endianness::Little),
+    }
+}
+
+fn address_there(s: &[u8], at: usize, h: Header) -> u64
+    requires { ⌜ at + blocks.blockHeaderLength (h .format) (h .«pointer_size») ≤ length (now s) ⌝ }
+    ensures { λ r. ⌜ r ≡ headerAt h (now (s .entry)) at .address ⌝ }
+{
+    let order = h.endianness;
+    let size = h.pointer_size;
+    match size {
+        PointerSize::Bits32 => word(s, at + 8, order),
+        PointerSize::Bits64 => long(s, at + 8, order),
+    }
+}
+
+fn index_there(s: &[u8], at: usize, h: Header) -> u64
+    requires { ⌜ at + blocks.blockHeaderLength (h .format) (h .«pointer_size») ≤ length (now s) ⌝ }
+    ensures { λ r. ⌜ r ≡ headerAt h (now (s .entry)) at .index ⌝ }
+{
+    let order = h.endianness;
+    let format = h.format;
+    match format {
+        FileFormat::Legacy => word(s, last_two(at, h), order),
+        FileFormat::New => word(s, at + 4, Endianness::Little),
+    }
+}
+
+fn count_there(s: &[u8], at: usize, h: Header) -> u64
+    requires { ⌜ at + blocks.blockHeaderLength (h .format) (h .«pointer_size») ≤ length (now s) ⌝ }
+    ensures { λ r. ⌜ r ≡ headerAt h (now (s .entry)) at .count ⌝ }
+{
+    let order = h.endianness;
+    let format = h.format;
+    match format {
+        FileFormat::Legacy => word(s, last_two(at, h) + 4, order),
+        FileFormat::New => long(s, last_two(at, h) + 8, Endianness::Little),
+    }
+}
+
+// The block header, and the row. Neither is made of the other, so that a compiler makes each a part of its pass.
+fn header_there(s: &[u8], at: usize, h: Header) -> BlockHeader
+    requires { ⌜ at + blocks.blockHeaderLength (h .format) (h .«pointer_size») ≤ length (now s) ⌝ }
+    ensures { λ r. ⌜ r ≡ headerAt h (now (s .entry)) at ⌝ }
+{
+    BlockHeader {
+        code: word(s, at, Endianness::Big),
+        size: size_there(s, at, h),
+        address: address_there(s, at, h),
+        index: index_there(s, at, h),
+        count: count_there(s, at, h),
+    }
+}
+
+fn row_there(s: &[u8], at: usize, h: Header) -> Row
+    requires { ⌜ at + blocks.blockHeaderLength (h .format) (h .«pointer_size») ≤ length (now s) ⌝ }
+    ensures { λ r. ⌜ r ≡ blocks.rowOf h at (headerAt h (now (s .entry)) at) ⌝ }
+{
+    let format = h.format;
+    let size = h.pointer_size;
+    let start = at + format.block_header_len(size);
+    Row {
+        code: word(s, at, Endianness::Big),
+        address: address_there(s, at, h),
+        index: index_there(s, at, h),
+        count: count_there(s, at, h),
+        at: at as u64,
+        payload: start as u64,
+        len: size_there(s, at, h),
+    }
+}
+
+// A block header that stands there, unless its address is 0.
+fn with_address(b: BlockHeader, next: Cursor) -> BlockHeaderRead
+    ensures { λ r. ⌜ blockHeaderRead r ≡ withAddress b (next .at) ⌝ }
+{
+    if b.address == 0 {
+        return BlockHeaderRead::Stopped(Fault::Refusal(3));
+    }
+    BlockHeaderRead::Is(b, next)
+}
+
+// A block header of either edition.
+fn block_header(c: Cursor, s: &[u8], h: Header) -> BlockHeaderRead
+    ensures { λ r. ⌜ blockHeaderRead r ≡ run (blocks.blockHeader h) (now (s .entry)) (c .at) ⌝ }
+{
+    let format = h.format;
+    let size = h.pointer_size;
+    match c.skip(s, format.block_header_len(size)) {
+        Moved::To(next) => with_address(header_there(s, c.at, h), next),
+        Moved::Stopped(_) => header_by_reads(c, s, h),
     }
 }
 
@@ -524,25 +661,20 @@ fn put_row(table: &mut [u64], i: usize, r: Row) -> usize
     i + Row::NUMBERS
 }
 
-// The second pass: the rows of n blocks, without their catalogues.
+// The second pass: the rows of n blocks, which the first has read. Nothing is tested again.
 fn fill_rows(s: &[u8], h: Header, from: usize, n: usize, table: &mut [u64])
     requires { ⌜ length (chains.rowTable (rowsFrom n h (now s) from)) ≤ length (now table) ⌝ }
+    requires { ⌜ length (rowsFrom n h (now s) from) ≡ n ⌝ }
     ensures { λ _. ⌜ now (table .exit) ≡ put (now (table .entry)) 0 (chains.rowTable (rowsFrom n h (now (s .entry)) from)) ⌝ }
 {
     let mut at = from;
     let mut left = n;
     let mut i = 0;
     while 0 < left {
-        match block(Cursor { at }, s, h) {
-            RowRead::Is(r, next) => {
-                i = put_row(table, i, r);
-                at = next;
-                left -= 1;
-            }
-            RowRead::Stopped(_) => {
-                return;
-            }
-        }
+        let r = row_there(s, at, h);
+        i = put_row(table, i, r);
+        at = (r.payload + r.len) as usize;
+        left -= 1;
     }
 }
 

@@ -7,6 +7,7 @@ pub mod Told
 pub mod Lossless
 pub mod Examples
 pub mod Counting
+pub mod Shorts
 pub mod Layouts
 pub mod Rows
 pub mod Answers

@@ -1,5 +1,5 @@
 -- What the passes over a catalogue ensure, and how their answers stand to the tree. No rule uses it.
-use Prim.Native.Nat.{ℕ, _+_, _≤_}
+use Prim.Native.Nat.{ℕ, _+_, _-_, _/_, _≤_}
 use mathlib.Core.List.{List}
 use mathlib.Core.Path.{_≡_}
 use lib.ListN.{length}
@@ -34,6 +34,10 @@ SizedIs e m s (Sized.Stopped f) o = o ≡ fault f
 abbrev pub fieldRead : FieldRead → Outcome (ℕ × ℕ)
 fieldRead (FieldRead.Is f c) = read (f .«type_index» .0, f .«name_index» .0) (c .at)
 fieldRead (FieldRead.Stopped x) = fault x
+
+-- how many numbers of two bytes stand from a place on, one after another
+abbrev pub shortsFrom : List ℕ → ℕ → ℕ
+shortsFrom s at = (length s - at) / 2
 
 -- a struct without its fields: its type number and how many they are
 abbrev pub headed : Outcome Struct → Outcome (ℕ × ℕ)

@@ -15,7 +15,7 @@ ghost use Rattle.primitive.specs.Cursor.{moved};
 ghost use Rattle.primitive.specs.Number.{number};
 ghost use Rattle.primitive.specs.Reader.{run, times};
 ghost use Rattle.dna.specs.Catalogue as rules;
-ghost use Rattle.dna.specs.Passes.{ListedIs, SizedIs, StructsAre, OneStructIs, LaidIs, Spanned, spanOf, fieldRead, totalled, structTotal, afterNames, afterTypes};
+ghost use Rattle.dna.specs.Passes.{ListedIs, SizedIs, StructsAre, OneStructIs, LaidIs, Spanned, spanOf, fieldRead, totalled, structTotal, shortsFrom, afterNames, afterTypes};
 
 // A number in the list of types, and one in the list of names. Neither stands in for the other.
 pub struct TypeNumber(pub u64);
@@ -170,24 +170,28 @@ fn list(c: Cursor, s: &[u8], e: Endianness, mark: &[u8]) -> Listed
     }
 }
 
-// Past m sizes.
-fn sizes_past(c: Cursor, s: &[u8], e: Endianness, m: u64) -> Moved
-    ensures { λ r. ⌜ moved r ≡ past (run (times m (rules.size e)) (now (s .entry)) (c .at)) ⌝ }
+// How many numbers of two bytes stand from a place on, one after another.
+fn shorts(s: &[u8], at: usize) -> usize
+    ensures { λ r. ⌜ r ≡ shortsFrom (now (s .entry)) at ⌝ }
 {
-    let mut here = c;
-    let mut left = m;
-    while 0 < left {
-        match here.number(s, Width::Two, e) {
-            Numbered::Is(_, next) => {
-                here = next;
-                left -= 1;
-            }
-            Numbered::Stopped(f) => {
-                return Moved::Stopped(f);
-            }
-        }
+    if s.len() < at {
+        return 0;
     }
-    Moved::To(here)
+    (s.len() - at) / 2
+}
+
+// Past m sizes. They are not looked at: what counts is whether they are there, and if not, where the first stands that is not.
+fn sizes_past(c: Cursor, s: &[u8], m: u64) -> Moved
+    ensures { λ r. ⌜ ((e : Endianness) → moved r ≡ past (run (times m (rules.size e)) (now (s .entry)) (c .at))) ⌝ }
+{
+    let at = c.at;
+    let there = shorts(s, at);
+    if m <= (there as u64) {
+        return Moved::To(Cursor {
+            at: at + 2 * (m as usize),
+        });
+    }
+    Moved::Stopped(Fault::Cut(at + 2 * there))
 }
 
 // The sizes of m types, and padding.
@@ -196,7 +200,7 @@ fn sizes(c: Cursor, s: &[u8], e: Endianness, m: u64) -> Sized
 {
     match c.mark(s, b"TLEN") {
         Moved::Stopped(f) => Sized::Stopped(f),
-        Moved::To(from) => match sizes_past(from, s, e, m) {
+        Moved::To(from) => match sizes_past(from, s, m) {
             Moved::Stopped(f) => Sized::Stopped(f),
             Moved::To(end) => match end.skip(s, padding(end.at - from.at)) {
                 Moved::Stopped(f) => Sized::Stopped(f),
@@ -225,24 +229,18 @@ fn field_record(c: Cursor, s: &[u8], e: Endianness) -> FieldRead
     }
 }
 
-// Past n field records.
-fn fields_past(c: Cursor, s: &[u8], e: Endianness, n: u64) -> Moved
-    ensures { λ r. ⌜ moved r ≡ past (run (times n (rules.field e)) (now (s .entry)) (c .at)) ⌝ }
+// Past n field records, as past sizes: each is two numbers of two bytes.
+fn fields_past(c: Cursor, s: &[u8], n: u64) -> Moved
+    ensures { λ r. ⌜ ((e : Endianness) → moved r ≡ past (run (times n (rules.field e)) (now (s .entry)) (c .at))) ⌝ }
 {
-    let mut here = c;
-    let mut left = n;
-    while 0 < left {
-        match field_record(here, s, e) {
-            FieldRead::Is(_, next) => {
-                here = next;
-                left -= 1;
-            }
-            FieldRead::Stopped(f) => {
-                return Moved::Stopped(f);
-            }
-        }
+    let at = c.at;
+    let there = shorts(s, at);
+    if n <= ((there / 2) as u64) {
+        return Moved::To(Cursor {
+            at: at + 4 * (n as usize),
+        });
     }
-    Moved::To(here)
+    Moved::Stopped(Fault::Cut(at + 2 * there))
 }
 
 // One struct, past its fields.
@@ -253,7 +251,7 @@ fn one_struct(c: Cursor, s: &[u8], e: Endianness) -> OneStruct
         Numbered::Stopped(f) => OneStruct::Stopped(f),
         Numbered::Is(kind, next) => match next.number(s, Width::Two, e) {
             Numbered::Stopped(f) => OneStruct::Stopped(f),
-            Numbered::Is(n, from) => match fields_past(from, s, e, n) {
+            Numbered::Is(n, from) => match fields_past(from, s, n) {
                 Moved::Stopped(f) => OneStruct::Stopped(f),
                 Moved::To(last) => OneStruct::Is(TypeNumber(kind), n, last),
             },

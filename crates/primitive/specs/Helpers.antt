@@ -1,18 +1,11 @@
 -- What helpers of the code ensure. No rule uses it.
-use Prim.Native.Nat.{ℕ, zero, suc, _+_, _-_, _≤_}
+use Prim.Native.Nat.{ℕ, zero, suc, _+_, _≤_}
 use mathlib.Core.List.{List, [], _∷_}
 use lib.ListN.{set}
-use Rattle.primitive.specs.declared.Endianness.{Endianness}
-use Rattle.primitive.specs.declared.Endianness.the-variants.{Little, Big}
 use Rattle.primitive.specs.declared.Fault.{Fault}
 use Rattle.primitive.specs.declared.Fault.the-variants.{Cut, Mark, Refusal}
 use Rattle.primitive.specs.Reader.{Reader, Outcome, run}
 use Rattle.primitive.specs.Reader.Outcome.{read, fault}
-
--- where the byte that is i-th from the least significant stands among len bytes, for i below len
-abbrev pub placed : Endianness → ℕ → ℕ → ℕ
-placed Little i len = i
-placed Big i len = len - 1 - i
 
 -- a fault whose place is among n bytes, or just after them
 abbrev pub Placed : ℕ → Fault → Type 0

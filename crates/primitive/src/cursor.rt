@@ -5,6 +5,8 @@ use crate::Fault;
 use crate::number::number;
 ghost use mathlib.Core.Path.{_≡_};
 ghost use mathlib.Core.Bool.{true, false};
+ghost use Prim.Native.Nat.{_+_, _≤_};
+ghost use lib.ListN.{length, drop};
 ghost use Rattle.primitive.specs.Reader.{run, room, stands};
 ghost use Rattle.primitive.specs.Reader.Reader.{done, bytes, skip, string, begins};
 ghost use Rattle.primitive.specs.Number as numbers;
@@ -86,11 +88,12 @@ pub fn stands_at(s: &[u8], at: usize, m: &[u8]) -> bool
     }
 }
 
-// How many bytes stand before the first that is c; all of them where there is none.
-pub fn before(s: &[u8], c: u8) -> usize
-    ensures { λ r. ⌜ r ≡ rules.before c (now (s .entry)) ⌝ }
+// How many bytes stand before the first that is c, where it is not among the first of them, up to from.
+fn before_from(s: &[u8], c: u8, from: usize) -> usize
+    requires { ⌜ from ≤ length (now s) ⌝ }
+    ensures { λ r. ⌜ r ≡ from + rules.before c (drop from (now (s .entry))) ⌝ }
 {
-    let mut i = 0;
+    let mut i = from;
     while i < s.len() {
         if s[i] == c {
             return i;
@@ -98,6 +101,29 @@ pub fn before(s: &[u8], c: u8) -> usize
         i += 1;
     }
     i
+}
+
+// How many bytes stand before the first that is c; all of them where there is none. Four bytes a turn, as long as there are four.
+pub fn before(s: &[u8], c: u8) -> usize
+    ensures { λ r. ⌜ r ≡ rules.before c (now (s .entry)) ⌝ }
+{
+    let mut i = 0;
+    while i + 3 < s.len() {
+        if s[i] == c {
+            return i;
+        }
+        if s[i + 1] == c {
+            return i + 1;
+        }
+        if s[i + 2] == c {
+            return i + 2;
+        }
+        if s[i + 3] == c {
+            return i + 3;
+        }
+        i += 4;
+    }
+    before_from(s, c, i)
 }
 
 impl Cursor {
@@ -115,7 +141,7 @@ impl Cursor {
         let n = width.bytes_num();
         if has(s, at, n) {
             let end = at + n;
-            Numbered::Is(number(&s[at..end], order), Cursor { at: end })
+            Numbered::Is(number(&s[at..end], width, order), Cursor { at: end })
         } else {
             Numbered::Stopped(Fault::Cut(at))
         }

@@ -1,10 +1,12 @@
 // Numbers of up to 8 bytes in either order: what the Rust takes from nom::number::complete.
 use crate::Endianness;
+use crate::cursor::Width;
 ghost use mathlib.Core.Path.{_≡_};
+ghost use mathlib.Core.List.{[], _∷_};
 ghost use Prim.Native.Nat.{_≤_, _<_, _^_};
 ghost use lib.ListN.{length, take};
-ghost use Rattle.primitive.specs.Helpers.{placed};
-ghost use Rattle.primitive.specs.Number.{spelled, twos};
+ghost use Rattle.primitive.specs.Cursor.{widthOf};
+ghost use Rattle.primitive.specs.Number.{little, spelled, twos};
 
 fn wide(b: u8) -> u64
     ensures { λ r. ⌜ r ≡ b ⌝ }
@@ -12,38 +14,74 @@ fn wide(b: u8) -> u64
     b as u64
 }
 
-// Where the byte that is i-th from the least significant stands among len bytes.
-fn place(order: Endianness, i: usize, len: usize) -> usize
-    requires { ⌜ i < len ⌝ }
-    ensures { λ r. ⌜ (r ≡ placed order i len) × (r < len) ⌝ }
+// The number of two bytes, and of four, the least significant first.
+fn two(a: u8, b: u8) -> u64
+    ensures { λ r. ⌜ (r ≡ little (a ∷ b ∷ [])) × (r < 2 ^ 16) ⌝ }
+{
+    wide(a) + wide(b) * 0x100
+}
+
+fn four(a: u8, b: u8, c: u8, d: u8) -> u64
+    ensures { λ r. ⌜ (r ≡ little (a ∷ b ∷ c ∷ d ∷ [])) × (r < 2 ^ 32) ⌝ }
+{
+    two(a, b) + two(c, d) * 0x1_0000
+}
+
+// The number that two bytes spell, and four, and eight. There is no loop in them: a compiler makes them one load.
+fn two_bytes(p: &[u8], order: Endianness) -> u64
+    requires { ⌜ length (now p) ≡ 2 ⌝ }
+    ensures { λ r. ⌜ r ≡ spelled order (now (p .entry)) ⌝ }
 {
     match order {
-        Endianness::Little => i,
-        Endianness::Big => len - 1 - i,
+        Endianness::Little => two(p[0], p[1]),
+        Endianness::Big => two(p[1], p[0]),
+    }
+}
+
+fn four_bytes(p: &[u8], order: Endianness) -> u64
+    requires { ⌜ length (now p) ≡ 4 ⌝ }
+    ensures { λ r. ⌜ r ≡ spelled order (now (p .entry)) ⌝ }
+{
+    match order {
+        Endianness::Little => four(p[0], p[1], p[2], p[3]),
+        Endianness::Big => four(p[3], p[2], p[1], p[0]),
+    }
+}
+
+fn eight_bytes(p: &[u8], order: Endianness) -> u64
+    requires { ⌜ length (now p) ≡ 8 ⌝ }
+    ensures { λ r. ⌜ r ≡ spelled order (now (p .entry)) ⌝ }
+{
+    match order {
+        Endianness::Little => {
+            four(p[0], p[1], p[2], p[3]) + four(p[4], p[5], p[6], p[7]) * 0x1_0000_0000
+        }
+        Endianness::Big => {
+            four(p[7], p[6], p[5], p[4]) + four(p[3], p[2], p[1], p[0]) * 0x1_0000_0000
+        }
     }
 }
 
 // The number that all the bytes of part spell.
-pub(crate) fn number(part: &[u8], order: Endianness) -> u64
-    requires { ⌜ length (now part) ≤ 8 ⌝ }
+pub(crate) fn number(part: &[u8], width: Width, order: Endianness) -> u64
+    requires { ⌜ length (now part) ≡ widthOf width ⌝ }
     ensures { λ r. ⌜ r ≡ spelled order (now (part .entry)) ⌝ }
 {
-    let mut n: u64 = 0;
-    let mut i = part.len();
-    while 0 < i {
-        i -= 1;
-        let at = place(order, i, part.len());
-        n = n * 256 + wide(part[at]);
+    match width {
+        Width::One => wide(part[0]),
+        Width::Two => two_bytes(part, order),
+        Width::Four => four_bytes(part, order),
+        Width::Eight => eight_bytes(part, order),
     }
-    n
 }
 
-// The number that the first width bytes of s spell.
-pub(crate) fn first(s: &[u8], width: usize, order: Endianness) -> u64
-    requires { ⌜ (width ≤ 8) × (width ≤ length (now s)) ⌝ }
-    ensures { λ r. ⌜ (r ≡ spelled order (take width (now (s .entry)))) × (r < 256 ^ width) ⌝ }
+// The number that the first bytes of s spell, as many as the width has.
+pub(crate) fn first(s: &[u8], width: Width, order: Endianness) -> u64
+    requires { ⌜ widthOf width ≤ length (now s) ⌝ }
+    ensures { λ r. ⌜ (r ≡ spelled order (take (widthOf width) (now (s .entry)))) × (r < 256 ^ widthOf width) ⌝ }
 {
-    number(&s[..width], order)
+    let n = width.bytes_num();
+    number(&s[..n], width, order)
 }
 
 // The numbers of 8, 16, 32 and 64 bits as two's complement has them.

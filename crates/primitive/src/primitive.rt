@@ -1,6 +1,7 @@
 // Primitive values: parsers/primitive.rs of the Rust. Its trait is a named function for each kind here, and a slice that is too short,
 // where the Rust panics, is refusal 12.
 use crate::Endianness;
+use crate::cursor::Width;
 use crate::number::first;
 use crate::number::signed8;
 use crate::number::signed16;
@@ -71,7 +72,7 @@ pub fn parse_u8(slice: &[u8], endianness: Endianness) -> ValueU8
     if slice.len() < 1 {
         return ValueU8::Short;
     }
-    ValueU8::Is(first(slice, 1, endianness) as u8)
+    ValueU8::Is(first(slice, Width::One, endianness) as u8)
 }
 
 pub fn parse_u16(slice: &[u8], endianness: Endianness) -> ValueU16
@@ -80,7 +81,7 @@ pub fn parse_u16(slice: &[u8], endianness: Endianness) -> ValueU16
     if slice.len() < 2 {
         return ValueU16::Short;
     }
-    ValueU16::Is(first(slice, 2, endianness) as u16)
+    ValueU16::Is(first(slice, Width::Two, endianness) as u16)
 }
 
 pub fn parse_u32(slice: &[u8], endianness: Endianness) -> ValueU32
@@ -89,7 +90,7 @@ pub fn parse_u32(slice: &[u8], endianness: Endianness) -> ValueU32
     if slice.len() < 4 {
         return ValueU32::Short;
     }
-    ValueU32::Is(first(slice, 4, endianness) as u32)
+    ValueU32::Is(first(slice, Width::Four, endianness) as u32)
 }
 
 pub fn parse_u64(slice: &[u8], endianness: Endianness) -> ValueU64
@@ -98,7 +99,7 @@ pub fn parse_u64(slice: &[u8], endianness: Endianness) -> ValueU64
     if slice.len() < 8 {
         return ValueU64::Short;
     }
-    ValueU64::Is(first(slice, 8, endianness))
+    ValueU64::Is(first(slice, Width::Eight, endianness))
 }
 
 // A character is its byte.

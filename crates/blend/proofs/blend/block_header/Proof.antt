@@ -1,45 +1,54 @@
--- `block_header`: the code, and the four numbers of the layout.
+-- `block_header`: all of it is there, or it is read number by number up to what stops it.
 use mathlib.Core.Path.{sym, _∙_, ap}
 use denote.Ref.{now}
-use Rattle.primitive.specs.Cursor.{numbered}
-use Rattle.blend.proofs.Layouts.{block-header-stops, block-header-on}
+use Rattle.primitive.specs.Cursor.{moved}
+use Rattle.blend.proofs.There.{header-fits, header-taken}
 use borrow.Author.Needs.{needs}
 use Rattle.blend.proofs.blend.block_header.Statement.{statement}
 use Rattle.blend.proofs.blend.block_header.Tie as tie
 
-block-header-code-requires : tie.Need-block-header-code-requires
-block-header-code-requires c κs = search needs
+block-header-len-requires : tie.Need-block-header-len-requires
+block-header-len-requires c κs = search needs
 
-enum-known-f : tie.Need-enum-known-f
-enum-known-f c = search needs
+skip-requires : tie.Need-skip-requires
+skip-requires c κs = search needs
 
-enum-known-code : tie.Need-enum-known-code
-enum-known-code c = search needs
+enum-known-next : tie.Need-enum-known-next
+enum-known-next c = search needs
 
-other-width-requires : tie.Need-other-width-requires
-other-width-requires c κs = search needs
+header-there-requires : tie.Need-header-there-requires
+header-there-requires c κs =
+    let a = c .before .before .before .before .before .before .args in
+    header-fits (a .h) (now (a .s)) (a .c .at) _ (c .before .before .before .before .block-header-len .ensures .0) _ (ap moved (sym (c .before .next .given .1)) ∙ c .before .before .before .skip .ensures)
 
-other-order-requires : tie.Need-other-order-requires
-other-order-requires c κs = search needs
+with-address-requires : tie.Need-with-address-requires
+with-address-requires c κs = search needs
 
-four-numbers-requires : tie.Need-four-numbers-requires
-four-numbers-requires c κs = search needs
+enum-told : tie.Need-enum-told
+enum-told c = search needs
+
+header-by-reads-requires : tie.Need-header-by-reads-requires
+header-by-reads-requires c κs = search needs
 
 returns : tie.Need-returns
-returns c = block-header-stops (c .before .before .before .before .before .args .h) (now (c .before .before .before .before .before .args .s)) _ _ (ap numbered (sym (c .before .f .given .1)) ∙ c .before .before .before .block-header-code .ensures)
+returns c =
+    let a = c .before .before .before .before .before .before .before .before .args in
+    c .with-address .ensures
+    ∙ header-taken (a .h) (now (a .s)) (a .c .at) _ (c .before .before .before .before .before .before .block-header-len .ensures .0) _ (ap moved (sym (c .before .before .before .next .given .1)) ∙ c .before .before .before .before .before .skip .ensures) _ (c .before .header-there .ensures)
 
 returns-2 : tie.Need-returns-2
-returns-2 c = c .four-numbers .ensures ∙ block-header-on (c .before .before .before .before .before .before .before .before .args .h) (now (c .before .before .before .before .before .before .before .before .args .s)) _ _ _ (ap numbered (sym (c .before .before .before .before .code .given .1)) ∙ c .before .before .before .before .before .before .block-header-code .ensures) _ _ (c .before .before .other-width .ensures) (c .before .other-order .ensures)
+returns-2 c = search needs
 
 pub block-header-spec : {M : Type 1} → statement M
 block-header-spec =
     tie.close
     (tie.spec
-    block-header-code-requires
-    enum-known-f
-    enum-known-code
-    other-width-requires
-    other-order-requires
-    four-numbers-requires
+    block-header-len-requires
+    skip-requires
+    enum-known-next
+    header-there-requires
+    with-address-requires
+    enum-told
+    header-by-reads-requires
     returns
     returns-2)

@@ -2,7 +2,7 @@
 use mathlib.Core.Path.{refl, sym, _∙_}
 use denote.Ref.{now}
 use Rattle.blend.specs.Chain.{chainFrom}
-use Rattle.blend.proofs.Answers.{after-stops, after-short, after-read, rows-fit, rows-written}
+use Rattle.blend.proofs.Answers.{after-stops, after-short, after-read, rows-fit, rows-all, rows-written}
 use borrow.Author.Needs.{needs}
 use Rattle.blend.proofs.blend.read_after.Statement.{statement}
 use Rattle.blend.proofs.blend.read_after.Tie as tie
@@ -23,7 +23,7 @@ returns : tie.Need-returns
 returns c = (after-short (c .before .before .before .before .before .before .before .args .h) (chainFrom (c .before .before .before .before .before .before .before .args .h) (now (c .before .before .before .before .before .before .before .args .file)) (c .before .before .before .before .before .before .before .args .from)) _ _ _ _ (sym (c .before .before .rows .given .1) ∙ c .before .before .before .before .count-blocks .ensures) (c .if1 .taken), refl)
 
 fill-rows-requires : tie.Need-fill-rows-requires
-fill-rows-requires c κs = rows-fit (c .before .before .before .before .before .before .before .before .args .h) (now (c .before .before .before .before .before .before .before .before .args .file)) (c .before .before .before .before .before .before .before .before .args .from) _ _ _ (sym (c .before .before .before .rows .given .1) ∙ c .before .before .before .before .before .count-blocks .ensures) (now (c .before .before .before .before .before .before .before .before .args .table)) (c .before .if1 .left)
+fill-rows-requires c κs = (rows-fit (c .before .before .before .before .before .before .before .before .args .h) (now (c .before .before .before .before .before .before .before .before .args .file)) (c .before .before .before .before .before .before .before .before .args .from) _ _ _ (sym (c .before .before .before .rows .given .1) ∙ c .before .before .before .before .before .count-blocks .ensures) (now (c .before .before .before .before .before .before .before .before .args .table)) (c .before .if1 .left), rows-all (c .before .before .before .before .before .before .before .before .args .h) (now (c .before .before .before .before .before .before .before .before .args .file)) (c .before .before .before .before .before .before .before .before .args .from) _ _ _ (sym (c .before .before .before .rows .given .1) ∙ c .before .before .before .before .before .count-blocks .ensures))
 
 returns-2 : tie.Need-returns-2
 returns-2 c = (after-stops (c .before .before .before .before .before .before .before .args .h) (chainFrom (c .before .before .before .before .before .before .before .args .h) (now (c .before .before .before .before .before .before .before .args .file)) (c .before .before .before .before .before .before .before .args .from)) _ _ (sym (c .before .before .f .given .1) ∙ c .before .before .before .before .count-blocks .ensures) _ (c .number-of .ensures), refl)

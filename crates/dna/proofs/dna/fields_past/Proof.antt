@@ -1,61 +1,35 @@
--- `fields_past`: as `strings`, with field records.
-use mathlib.Core.Path.{_≡_, refl, sym, _∙_, ap}
-use native.Mathlib.Omega.{arith}
-use borrow.Author.Needs.{needs}
+-- `fields_past`: as `sizes_past`, with field records.
 use denote.Ref.{now}
-use Rattle.primitive.specs.Helpers.{past}
-use Rattle.primitive.specs.Reader.{run, times}
-use Rattle.dna.specs.Catalogue.{field}
-use Rattle.dna.specs.Passes.{fieldRead}
-use Rattle.dna.proofs.Counting.{turn, turn-stops, turn-last}
+use Rattle.dna.proofs.Shorts.{fields-there, fields-cut}
+use borrow.Author.Needs.{needs}
 use Rattle.dna.proofs.dna.fields_past.Statement.{statement}
 use Rattle.dna.proofs.dna.fields_past.Tie as tie
 
-abbrev Inv-loop : tie.InvT-loop
-Inv-loop s e n here₀ left₀ here left = past (run (times n (field e)) s (here₀ .at)) ≡ past (run (times left (field e)) s (here .at))
+shorts-requires : tie.Need-shorts-requires
+shorts-requires c κs = search needs
 
-abbrev μ-loop : tie.MeasureT-loop
-μ-loop s e n here₀ left₀ here left = left
+mul-t10 : tie.Need-mul-t10
+mul-t10 c = search needs
 
-loop-holds : tie.Need-loop-holds Inv-loop μ-loop
-loop-holds c = refl
+add-t11 : tie.Need-add-t11
+add-t11 c = search needs
 
-field-record-requires : tie.Need-field-record-requires Inv-loop μ-loop
-field-record-requires c κs = tt
+returns : tie.Need-returns
+returns c e =
+    let a = c .before .before .before .args in
+    fields-there (now (a .s)) e (a .n) (a .c .at) (rw (← c .before .shorts .ensures) (c .if1 .taken))
 
-enum-known-next : tie.Need-enum-known-next Inv-loop μ-loop
-enum-known-next c = search needs
+mul-t6 : tie.Need-mul-t6
+mul-t6 c = search needs
 
-sub-left : tie.Need-sub-left Inv-loop μ-loop
-sub-left c = omega arith
+add-t13 : tie.Need-add-t13
+add-t13 c = search needs
 
-loop-less : tie.Need-loop-less Inv-loop μ-loop
-loop-less c = omega arith
-
-loop-again : tie.Need-loop-again Inv-loop μ-loop
-loop-again c = c .before .before .before .before .before .loop .inv ∙ turn (field (c .before .before .before .before .before .before .before .args .e)) (now (c .before .before .before .before .before .before .before .args .s)) _ _ (c .before .before .before .before .loop-test .taken) _ _ (sym (ap fieldRead (sym (c .before .next .given .1)) ∙ c .before .before .before .field-record .ensures))
-
-enum-known-f : tie.Need-enum-known-f Inv-loop μ-loop
-enum-known-f c = search needs
-
-returns : tie.Need-returns Inv-loop μ-loop
-returns c = turn-stops (field (c .before .before .before .before .before .before .before .args .e)) (now (c .before .before .before .before .before .before .before .args .s)) _ _ (c .before .before .before .before .loop-test .taken) _ (sym (ap fieldRead (sym (c .before .f .given .1)) ∙ c .before .before .before .field-record .ensures)) ∙ sym (c .before .before .before .before .before .loop .inv)
-
-returns-2 : tie.Need-returns-2 Inv-loop μ-loop
-returns-2 c = turn-last (field (c .before .before .before .args .e)) (now (c .before .before .before .args .s)) _ _ (c .loop-test .left) ∙ sym (c .before .loop .inv)
+returns-2 : tie.Need-returns-2
+returns-2 c e =
+    let a = c .before .before .before .args in
+    rw (c .before .shorts .ensures) (fields-cut (now (a .s)) e (a .n) (a .c .at) (rw (← c .before .shorts .ensures) (c .if1 .left)))
 
 pub fields-past-spec : {M : Type 1} → statement M
 fields-past-spec =
-    tie.close
-    (tie.spec
-    Inv-loop
-    μ-loop
-    loop-holds
-    field-record-requires
-    enum-known-next
-    sub-left
-    loop-less
-    loop-again
-    enum-known-f
-    returns
-    returns-2)
+    tie.close (tie.spec shorts-requires mul-t10 add-t11 returns mul-t6 add-t13 returns-2)

@@ -41,10 +41,10 @@ returns-2 : tie.Need-returns-2
 returns-2 c = struct-stops-later (c .before .before .before .before .before .before .before .before .before .args .e) (now (c .before .before .before .before .before .before .before .before .before .args .s)) (c .before .before .before .before .before .before .before .before .before .args .c .at) _ _ (ap numbered (sym (c .before .before .before .before .before .kind .given .1)) ∙ c .before .before .before .before .before .before .before .number .ensures) _ (ap numbered (sym (c .before .f2 .given .1)) ∙ c .before .before .before .number2 .ensures)
 
 returns-3 : tie.Need-returns-3
-returns-3 c = struct-stops-fields (c .before .before .before .before .before .before .before .before .before .before .before .before .before .args .e) (now (c .before .before .before .before .before .before .before .before .before .before .before .before .before .args .s)) (c .before .before .before .before .before .before .before .before .before .before .before .before .before .args .c .at) _ _ (ap numbered (sym (c .before .before .before .before .before .before .before .before .before .kind .given .1)) ∙ c .before .before .before .before .before .before .before .before .before .before .before .number .ensures) _ _ (ap numbered (sym (c .before .before .before .before .before .n .given .1)) ∙ c .before .before .before .before .before .before .before .number2 .ensures) _ (ap moved (sym (c .before .f3 .given .1)) ∙ c .before .before .before .fields-past .ensures)
+returns-3 c = struct-stops-fields (c .before .before .before .before .before .before .before .before .before .before .before .before .before .args .e) (now (c .before .before .before .before .before .before .before .before .before .before .before .before .before .args .s)) (c .before .before .before .before .before .before .before .before .before .before .before .before .before .args .c .at) _ _ (ap numbered (sym (c .before .before .before .before .before .before .before .before .before .kind .given .1)) ∙ c .before .before .before .before .before .before .before .before .before .before .before .number .ensures) _ _ (ap numbered (sym (c .before .before .before .before .before .n .given .1)) ∙ c .before .before .before .before .before .before .before .number2 .ensures) _ (ap moved (sym (c .before .f3 .given .1)) ∙ c .before .before .before .fields-past .ensures (c .before .before .before .before .before .before .before .before .before .before .before .before .before .args .e))
 
 returns-4 : tie.Need-returns-4
-returns-4 c = (struct-headed (c .before .before .before .before .before .before .before .before .before .before .before .before .before .args .e) (now (c .before .before .before .before .before .before .before .before .before .before .before .before .before .args .s)) (c .before .before .before .before .before .before .before .before .before .before .before .before .before .args .c .at) _ _ _ _ _ (ap numbered (sym (c .before .before .before .before .before .before .before .before .before .kind .given .1)) ∙ c .before .before .before .before .before .before .before .before .before .before .before .number .ensures) (ap numbered (sym (c .before .before .before .before .before .n .given .1)) ∙ c .before .before .before .before .before .before .before .number2 .ensures) (ap moved (sym (c .before .last .given .1)) ∙ c .before .before .before .fields-past .ensures), struct-room (c .before .before .before .before .before .before .before .before .before .before .before .before .before .args .e) (now (c .before .before .before .before .before .before .before .before .before .before .before .before .before .args .s)) (c .before .before .before .before .before .before .before .before .before .before .before .before .before .args .c .at) _ _ _ _ _ (ap numbered (sym (c .before .before .before .before .before .before .before .before .before .kind .given .1)) ∙ c .before .before .before .before .before .before .before .before .before .before .before .number .ensures) (ap numbered (sym (c .before .before .before .before .before .n .given .1)) ∙ c .before .before .before .before .before .before .before .number2 .ensures) (ap moved (sym (c .before .last .given .1)) ∙ c .before .before .before .fields-past .ensures))
+returns-4 c = (struct-headed (c .before .before .before .before .before .before .before .before .before .before .before .before .before .args .e) (now (c .before .before .before .before .before .before .before .before .before .before .before .before .before .args .s)) (c .before .before .before .before .before .before .before .before .before .before .before .before .before .args .c .at) _ _ _ _ _ (ap numbered (sym (c .before .before .before .before .before .before .before .before .before .kind .given .1)) ∙ c .before .before .before .before .before .before .before .before .before .before .before .number .ensures) (ap numbered (sym (c .before .before .before .before .before .n .given .1)) ∙ c .before .before .before .before .before .before .before .number2 .ensures) (ap moved (sym (c .before .last .given .1)) ∙ c .before .before .before .fields-past .ensures (c .before .before .before .before .before .before .before .before .before .before .before .before .before .args .e)), struct-room (c .before .before .before .before .before .before .before .before .before .before .before .before .before .args .e) (now (c .before .before .before .before .before .before .before .before .before .before .before .before .before .args .s)) (c .before .before .before .before .before .before .before .before .before .before .before .before .before .args .c .at) _ _ _ _ _ (ap numbered (sym (c .before .before .before .before .before .before .before .before .before .kind .given .1)) ∙ c .before .before .before .before .before .before .before .before .before .before .before .number .ensures) (ap numbered (sym (c .before .before .before .before .before .n .given .1)) ∙ c .before .before .before .before .before .before .before .number2 .ensures) (ap moved (sym (c .before .last .given .1)) ∙ c .before .before .before .fields-past .ensures (c .before .before .before .before .before .before .before .before .before .before .before .before .before .args .e)))
 
 pub one-struct-spec : {M : Type 1} → statement M
 one-struct-spec =

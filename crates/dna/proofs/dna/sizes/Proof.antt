@@ -31,11 +31,11 @@ enum-known-end : tie.Need-enum-known-end
 enum-known-end c = search needs
 
 sub-padding : tie.Need-sub-padding
-sub-padding c = all-after (size (c .before .before .before .before .before .before .before .before .before .before .before .before .args .e)) (now (c .before .before .before .before .before .before .before .before .before .before .before .before .args .s)) _ _ _ (ap moved (sym (c .before .before .before .end .given .1)) ∙ c .before .before .before .before .before .sizes-past .ensures)
+sub-padding c = all-after (size (c .before .before .before .before .before .before .before .before .before .before .before .before .args .e)) (now (c .before .before .before .before .before .before .before .before .before .before .before .before .args .s)) _ _ _ (ap moved (sym (c .before .before .before .end .given .1)) ∙ c .before .before .before .before .before .sizes-past .ensures (c .before .before .before .before .before .before .before .before .before .before .before .before .args .e))
 
 padding-requires : tie.Need-padding-requires
 padding-requires c κs =
-    let h = all-within (size (c .before .before .before .before .before .before .before .before .before .before .before .before .args .e)) (now (c .before .before .before .before .before .before .before .before .before .before .before .before .args .s)) _ _ _ (ap moved (sym (c .before .before .before .end .given .1)) ∙ c .before .before .before .before .before .sizes-past .ensures) in
+    let h = all-within (size (c .before .before .before .before .before .before .before .before .before .before .before .before .args .e)) (now (c .before .before .before .before .before .before .before .before .before .before .before .before .args .s)) _ _ _ (ap moved (sym (c .before .before .before .end .given .1)) ∙ c .before .before .before .before .before .sizes-past .ensures (c .before .before .before .before .before .before .before .before .before .before .before .before .args .e)) in
     omega (arith, c .before .before .before .before .before .before .before .before .before .before .before .before .good)
 
 skip-requires : tie.Need-skip-requires
@@ -51,13 +51,13 @@ returns : tie.Need-returns
 returns c = no-tlen (c .before .before .before .before .before .before .args .e) (now (c .before .before .before .before .before .before .args .s)) _ _ _ (ap moved (sym (c .before .f .given .1)) ∙ c .before .before .before .mark .ensures)
 
 returns-2 : tie.Need-returns-2
-returns-2 c = sizes-stop (c .before .before .before .before .before .before .before .before .before .before .args .e) (now (c .before .before .before .before .before .before .before .before .before .before .args .s)) _ _ _ (ap moved (sym (c .before .before .before .before .before .from .given .1)) ∙ c .before .before .before .before .before .before .before .mark .ensures) _ (ap moved (sym (c .before .f2 .given .1)) ∙ c .before .before .before .sizes-past .ensures)
+returns-2 c = sizes-stop (c .before .before .before .before .before .before .before .before .before .before .args .e) (now (c .before .before .before .before .before .before .before .before .before .before .args .s)) _ _ _ (ap moved (sym (c .before .before .before .before .before .from .given .1)) ∙ c .before .before .before .before .before .before .before .mark .ensures) _ (ap moved (sym (c .before .f2 .given .1)) ∙ c .before .before .before .sizes-past .ensures (c .before .before .before .before .before .before .before .before .before .before .args .e))
 
 returns-3 : tie.Need-returns-3
-returns-3 c = sizes-padding-stops (c .before .before .before .before .before .before .before .before .before .before .before .before .before .before .before .before .before .args .e) (now (c .before .before .before .before .before .before .before .before .before .before .before .before .before .before .before .before .before .args .s)) _ _ _ (ap moved (sym (c .before .before .before .before .before .before .before .before .before .before .before .before .from .given .1)) ∙ c .before .before .before .before .before .before .before .before .before .before .before .before .before .before .mark .ensures) _ (ap moved (sym (c .before .before .before .before .before .before .before .before .end .given .1)) ∙ c .before .before .before .before .before .before .before .before .before .before .sizes-past .ensures) _ (c .before .before .before .before .padding .ensures) _ (ap moved (sym (c .before .f3 .given .1)) ∙ c .before .before .before .skip .ensures)
+returns-3 c = sizes-padding-stops (c .before .before .before .before .before .before .before .before .before .before .before .before .before .before .before .before .before .args .e) (now (c .before .before .before .before .before .before .before .before .before .before .before .before .before .before .before .before .before .args .s)) _ _ _ (ap moved (sym (c .before .before .before .before .before .before .before .before .before .before .before .before .from .given .1)) ∙ c .before .before .before .before .before .before .before .before .before .before .before .before .before .before .mark .ensures) _ (ap moved (sym (c .before .before .before .before .before .before .before .before .end .given .1)) ∙ c .before .before .before .before .before .before .before .before .before .before .sizes-past .ensures (c .before .before .before .before .before .before .before .before .before .before .before .before .before .before .before .before .before .args .e)) _ (c .before .before .before .before .padding .ensures) _ (ap moved (sym (c .before .f3 .given .1)) ∙ c .before .before .before .skip .ensures)
 
 returns-4 : tie.Need-returns-4
-returns-4 c = (sizes-read (c .before .before .before .before .before .before .before .before .before .before .before .before .before .before .before .before .before .args .e) (now (c .before .before .before .before .before .before .before .before .before .before .before .before .before .before .before .before .before .args .s)) _ _ _ (ap moved (sym (c .before .before .before .before .before .before .before .before .before .before .before .before .from .given .1)) ∙ c .before .before .before .before .before .before .before .before .before .before .before .before .before .before .mark .ensures) _ (ap moved (sym (c .before .before .before .before .before .before .before .before .end .given .1)) ∙ c .before .before .before .before .before .before .before .before .before .before .sizes-past .ensures) _ (c .before .before .before .before .padding .ensures) _ (ap moved (sym (c .before .next .given .1)) ∙ c .before .before .before .skip .ensures), all-many (size (c .before .before .before .before .before .before .before .before .before .before .before .before .before .before .before .before .before .args .e)) (now (c .before .before .before .before .before .before .before .before .before .before .before .before .before .before .before .before .before .args .s)) _ _ _ (ap moved (sym (c .before .before .before .before .before .before .before .before .end .given .1)) ∙ c .before .before .before .before .before .before .before .before .before .before .sizes-past .ensures))
+returns-4 c = (sizes-read (c .before .before .before .before .before .before .before .before .before .before .before .before .before .before .before .before .before .args .e) (now (c .before .before .before .before .before .before .before .before .before .before .before .before .before .before .before .before .before .args .s)) _ _ _ (ap moved (sym (c .before .before .before .before .before .before .before .before .before .before .before .before .from .given .1)) ∙ c .before .before .before .before .before .before .before .before .before .before .before .before .before .before .mark .ensures) _ (ap moved (sym (c .before .before .before .before .before .before .before .before .end .given .1)) ∙ c .before .before .before .before .before .before .before .before .before .before .sizes-past .ensures (c .before .before .before .before .before .before .before .before .before .before .before .before .before .before .before .before .before .args .e)) _ (c .before .before .before .before .padding .ensures) _ (ap moved (sym (c .before .next .given .1)) ∙ c .before .before .before .skip .ensures), all-many (size (c .before .before .before .before .before .before .before .before .before .before .before .before .before .before .before .before .before .args .e)) (now (c .before .before .before .before .before .before .before .before .before .before .before .before .before .before .before .before .before .args .s)) _ _ _ (ap moved (sym (c .before .before .before .before .before .before .before .before .end .given .1)) ∙ c .before .before .before .before .before .before .before .before .before .before .sizes-past .ensures (c .before .before .before .before .before .before .before .before .before .before .before .before .before .before .before .before .before .args .e)))
 
 pub sizes-spec : {M : Type 1} → statement M
 sizes-spec =

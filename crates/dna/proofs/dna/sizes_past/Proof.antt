@@ -1,62 +1,35 @@
--- `sizes_past`: as `strings`, with sizes.
-use mathlib.Core.Path.{_≡_, refl, sym, _∙_, ap}
-use native.Mathlib.Omega.{arith}
-use borrow.Author.Needs.{needs}
+-- `sizes_past`: past m sizes, or where the first stands that is not there.
 use denote.Ref.{now}
-use Rattle.primitive.specs.Cursor.{numbered}
-use Rattle.primitive.specs.Helpers.{past}
-use Rattle.primitive.specs.Number.{number}
-use Rattle.primitive.specs.Reader.{run, times}
-use Rattle.dna.specs.Catalogue.{size}
-use Rattle.dna.proofs.Counting.{turn, turn-stops, turn-last}
+use Rattle.dna.proofs.Shorts.{sizes-there, sizes-cut}
+use borrow.Author.Needs.{needs}
 use Rattle.dna.proofs.dna.sizes_past.Statement.{statement}
 use Rattle.dna.proofs.dna.sizes_past.Tie as tie
 
-abbrev Inv-loop : tie.InvT-loop
-Inv-loop s e m here₀ left₀ here left = past (run (times m (size e)) s (here₀ .at)) ≡ past (run (times left (size e)) s (here .at))
+shorts-requires : tie.Need-shorts-requires
+shorts-requires c κs = search needs
 
-abbrev μ-loop : tie.MeasureT-loop
-μ-loop s e m here₀ left₀ here left = left
+mul-t9 : tie.Need-mul-t9
+mul-t9 c = search needs
 
-loop-holds : tie.Need-loop-holds Inv-loop μ-loop
-loop-holds c = refl
+add-t10 : tie.Need-add-t10
+add-t10 c = search needs
 
-number-requires : tie.Need-number-requires Inv-loop μ-loop
-number-requires c κs = tt
+returns : tie.Need-returns
+returns c e =
+    let a = c .before .before .before .args in
+    sizes-there (now (a .s)) e (a .m) (a .c .at) (rw (← c .before .shorts .ensures) (c .if1 .taken))
 
-enum-known-next : tie.Need-enum-known-next Inv-loop μ-loop
-enum-known-next c = search needs
+mul-t12 : tie.Need-mul-t12
+mul-t12 c = search needs
 
-sub-left : tie.Need-sub-left Inv-loop μ-loop
-sub-left c = omega arith
+add-t13 : tie.Need-add-t13
+add-t13 c = search needs
 
-loop-less : tie.Need-loop-less Inv-loop μ-loop
-loop-less c = omega arith
-
-loop-again : tie.Need-loop-again Inv-loop μ-loop
-loop-again c = c .before .before .before .before .before .loop .inv ∙ turn (size (c .before .before .before .before .before .before .before .args .e)) (now (c .before .before .before .before .before .before .before .args .s)) _ _ (c .before .before .before .before .loop-test .taken) _ _ (sym (ap numbered (sym (c .before .next .given .1)) ∙ c .before .before .before .number .ensures))
-
-enum-known-f : tie.Need-enum-known-f Inv-loop μ-loop
-enum-known-f c = search needs
-
-returns : tie.Need-returns Inv-loop μ-loop
-returns c = turn-stops (size (c .before .before .before .before .before .before .before .args .e)) (now (c .before .before .before .before .before .before .before .args .s)) _ _ (c .before .before .before .before .loop-test .taken) _ (sym (ap numbered (sym (c .before .f .given .1)) ∙ c .before .before .before .number .ensures)) ∙ sym (c .before .before .before .before .before .loop .inv)
-
-returns-2 : tie.Need-returns-2 Inv-loop μ-loop
-returns-2 c = turn-last (size (c .before .before .before .args .e)) (now (c .before .before .before .args .s)) _ _ (c .loop-test .left) ∙ sym (c .before .loop .inv)
+returns-2 : tie.Need-returns-2
+returns-2 c e =
+    let a = c .before .before .before .args in
+    rw (c .before .shorts .ensures) (sizes-cut (now (a .s)) e (a .m) (a .c .at) (rw (← c .before .shorts .ensures) (c .if1 .left)))
 
 pub sizes-past-spec : {M : Type 1} → statement M
 sizes-past-spec =
-    tie.close
-    (tie.spec
-    Inv-loop
-    μ-loop
-    loop-holds
-    number-requires
-    enum-known-next
-    sub-left
-    loop-less
-    loop-again
-    enum-known-f
-    returns
-    returns-2)
+    tie.close (tie.spec shorts-requires mul-t9 add-t10 returns mul-t12 add-t13 returns-2)

@@ -1,79 +1,70 @@
--- `number` reads all the bytes it is handed, once over their number and for both orders. The invariant: what was read is the number that
--- the bytes from the i-th least significant up spell.
-use Prim.Native.Nat.{_≤_}
+-- `number` reads all the bytes it is handed, as many as the width has.
 use mathlib.Core.Path.{_≡_, _∙_}
 use denote.Ref.{now}
-use Rattle.primitive.proofs.Digits.{Bytes, none-yet, one-more, room-for-more}
 use native.Mathlib.Omega.{arith}
-use lib.ListN.{length, drop}
+use lib.ListN.{length}
+use Rattle.primitive.proofs.Digits.{one-spelled}
 use borrow.Author.Needs.{needs}
-use Rattle.primitive.specs.Number.{little, leastFirst}
 use Rattle.primitive.proofs.number.number.Statement.{statement}
 use Rattle.primitive.proofs.number.number.Tie as tie
 
-abbrev Inv-loop : tie.InvT-loop
-Inv-loop part order n₀ i₀ n i = (i ≤ length part) × (n ≡ little (drop i (leastFirst order part)))
+enum-told : tie.Need-enum-told
+enum-told c = search needs
 
-abbrev μ-loop : tie.MeasureT-loop
-μ-loop part order n₀ i₀ n i = i
+shared-slice-read-wide : tie.Need-shared-slice-read-wide
+shared-slice-read-wide c =
+    let w : length (now (c .before .before .before .before .args .part)) ≡ 1 = rw (c .before .enum-told .given .1) at (c .before .before .before .before .pre) in
+    omega arith
 
-loop-holds : tie.Need-loop-holds Inv-loop μ-loop
-loop-holds c = (search needs, none-yet (c .before .args .order) (now (c .before .args .part)))
+wide-requires : tie.Need-wide-requires
+wide-requires c κs = search needs
 
-sub-i : tie.Need-sub-i Inv-loop μ-loop
-sub-i c = omega arith
+enum-told-2 : tie.Need-enum-told-2
+enum-told-2 c = search needs
 
-place-requires : tie.Need-place-requires Inv-loop μ-loop
-place-requires c κs = omega arith
+two-bytes-requires : tie.Need-two-bytes-requires
+two-bytes-requires c κs = rw (c .enum-told2 .given .1) at (c .before .before .before .pre)
 
-mul-n : tie.Need-mul-n Inv-loop μ-loop
-mul-n c =
-    let a = c .before .before .before .before .args in
-    let l = c .before .before .loop in
-    let b : Bytes (now (a .part)) = λ j. c .before .before .before .shared-slice-known .given j .fits in
-    omega (arith, l .inv .1, room-for-more (a .order) (now (a .part)) (l .i) b (c .before .before .before .before .pre) (c .before .loop-test .taken))
+enum-told-3 : tie.Need-enum-told-3
+enum-told-3 c = search needs
 
-shared-slice-read-wide : tie.Need-shared-slice-read-wide Inv-loop μ-loop
-shared-slice-read-wide c = omega arith
+four-bytes-requires : tie.Need-four-bytes-requires
+four-bytes-requires c κs = rw (c .enum-told3 .given .1) at (c .before .before .before .pre)
 
-wide-requires : tie.Need-wide-requires Inv-loop μ-loop
-wide-requires c κs = tt
+enum-told-4 : tie.Need-enum-told-4
+enum-told-4 c = search needs
 
-add-n : tie.Need-add-n Inv-loop μ-loop
-add-n c =
-    let a = c .before .before .before .before .before .before .args in
-    let l = c .before .before .before .before .loop in
-    let b : Bytes (now (a .part)) = λ j. c .before .shared-slice-known2 .given j .fits in
-    omega
-    (arith, l .inv .1, b (c .before .before .place .result), room-for-more (a .order) (now (a .part)) (l .i) b (c .before .before .before .before .before .before .pre) (c .before .before .before .loop-test .taken))
+eight-bytes-requires : tie.Need-eight-bytes-requires
+eight-bytes-requires c κs = rw (c .enum-told4 .given .1) at (c .before .before .before .pre)
 
-loop-less : tie.Need-loop-less Inv-loop μ-loop
-loop-less c = omega arith
-
-loop-again : tie.Need-loop-again Inv-loop μ-loop
-loop-again c =
-    let a = c .before .before .before .before .before .before .args in
-    let l = c .before .before .before .before .loop in
-    (omega arith, rw (c .wide .ensures, c .before .before .place .ensures .0, l .inv .1) (one-more (a .order) (now (a .part)) (l .i) (c .before .before .before .loop-test .taken) (l .inv .0)))
-
-returns : tie.Need-returns Inv-loop μ-loop
+returns : tie.Need-returns
 returns c =
-    let z : c .before .loop .i ≡ 0 = omega arith in
-    c .before .loop .inv .1 ∙ rw z
+    let a = c .before .before .before .before .before .args in
+    c .wide .ensures ∙ one-spelled (a .order) (now (a .part)) (rw (c .before .before .enum-told .given .1) at (c .before .before .before .before .before .pre))
+
+returns-2 : tie.Need-returns-2
+returns-2 c = search needs
+
+returns-3 : tie.Need-returns-3
+returns-3 c = search needs
+
+returns-4 : tie.Need-returns-4
+returns-4 c = search needs
 
 pub number-spec : {M : Type 1} → statement M
 number-spec =
     tie.close
     (tie.spec
-    Inv-loop
-    μ-loop
-    loop-holds
-    sub-i
-    place-requires
-    mul-n
+    enum-told
     shared-slice-read-wide
     wide-requires
-    add-n
-    loop-less
-    loop-again
-    returns)
+    enum-told-2
+    two-bytes-requires
+    enum-told-3
+    four-bytes-requires
+    enum-told-4
+    eight-bytes-requires
+    returns
+    returns-2
+    returns-3
+    returns-4)

@@ -4,9 +4,8 @@ use mathlib.Core.Path.{sym, _∙_}
 use native.Mathlib.Omega.{arith}
 use borrow.Author.Tests.{leb-true, leb-false}
 use denote.Ref.{now}
-use lib.ListN.{length, length-take, length-drop}
+use lib.ListN.{length}
 use Rattle.primitive.proofs.Reading.{numbered-in, numbered-out}
-use Rattle.primitive.proofs.Digits.{width-le}
 use borrow.Author.Needs.{needs}
 use Rattle.primitive.proofs.cursor.Cursor.number.Statement.{statement}
 use Rattle.primitive.proofs.cursor.Cursor.number.Tie as tie
@@ -33,8 +32,7 @@ part-number-end : tie.Need-part-number-end
 part-number-end c = leb-true _ _ (sym (c .before .has .ensures) ∙ c .if1 .taken)
 
 number-requires : tie.Need-number-requires
-number-requires c κs =
-    simp (length-take, length-drop) (omega (arith, width-le (c .before .before .before .before .before .args .width), c .before .before .before .bytes-num .ensures))
+number-requires c κs = search needs
 
 returns : tie.Need-returns
 returns c =

@@ -1,0 +1,40 @@
+-- `header_there`: its five numbers.
+use native.Mathlib.Omega.{arith}
+use denote.Ref.{now}
+use Rattle.primitive.specs.PointerSize.{pointerBytes}
+use Rattle.blend.proofs.There.{length-parts, told-again}
+use borrow.Author.Needs.{needs}
+use Rattle.blend.proofs.blend.header_there.Statement.{statement}
+use Rattle.blend.proofs.blend.header_there.Tie as tie
+
+word-requires : tie.Need-word-requires
+word-requires c κs = omega (arith, c .before .pre, length-parts (c .before .args .h .format) (c .before .args .h .«pointer_size»))
+
+size-there-requires : tie.Need-size-there-requires
+size-there-requires c κs = search needs
+
+address-there-requires : tie.Need-address-there-requires
+address-there-requires c κs = search needs
+
+index-there-requires : tie.Need-index-there-requires
+index-there-requires c κs = search needs
+
+count-there-requires : tie.Need-count-there-requires
+count-there-requires c κs = search needs
+
+returns : tie.Need-returns
+returns c =
+    let a = c .before .before .before .before .before .before .args in
+    rw (c .before .before .before .before .word .ensures, c .before .before .before .size-there .ensures, c .before .before .address-there .ensures, c .before .index-there .ensures, c .count-there .ensures)
+    (told-again (a .h .format) (pointerBytes (a .h .«pointer_size»)) (a .h .endianness) (now (a .s)) (a .at))
+
+pub header-there-spec : {M : Type 1} → statement M
+header-there-spec =
+    tie.close
+    (tie.spec
+    word-requires
+    size-there-requires
+    address-there-requires
+    index-there-requires
+    count-there-requires
+    returns)
