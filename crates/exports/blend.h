@@ -3,7 +3,8 @@
  * A slice goes in as a pointer and the number of its elements, which must be there. For any bytes in them, and any other numbers, every function returns; none keeps a
  * pointer, allocates, or writes anywhere but in the tables that it is lent, which may be uninitialised. No pointer may be null, also not that of a slice of no
  * elements. Tables must not overlap each other or the bytes that are read, unless they have no elements; tables are of uint64_t, aligned as such. Nothing is
- * shared between calls, so they may be made from any thread.
+ * shared between calls, so they may be made from any thread. While a call runs nobody else may change what it is lent: a file that is mapped and that another
+ * program writes to is best copied first.
  *
  * In every answer `refusal` is 0, or the number of a refusal. On a refusal the tables hold what they held, and every number of the answer that the refusal does not
  * carry is 0 and says nothing: look at `refusal` first. On an answer `needed` and `table` are 0, and a table's numbers past those used are as they were.
@@ -25,7 +26,8 @@
  * The earliest fault is reported; 7, 8 and 11 come only when all else reads (but 11 before 10).
  *
  * Tables: a row takes 7 numbers in the row table, 3 in types and structs, 2 in names and fields (below); a table's rows are its length divided by that, rounded
- * down. `needed` counts rows (7, 8) or dimensions (11), a table's length numbers. To read a file of any size:
+ * down. `needed` counts rows (7, 8) or dimensions (11), a table's length numbers. Every block takes BLEND_BLOCK_LEAST bytes or more, so a row table with a row for each
+ * BLEND_BLOCK_LEAST bytes of the file is never too short. To read a file of any size without so large a table:
  *
  *     uint64_t none[1];
  *     struct blend_read r = blend_read(file, length, none, 0);
@@ -48,6 +50,8 @@
 #ifdef __cplusplus
 extern "C" {
 #endif
+
+#define BLEND_BLOCK_LEAST 20 /* the bytes of the shortest block: a header of 20 bytes, and no payload */
 
 #define BLEND_ROW 7 /* numbers to a row */
 #define BLEND_NAME 2
@@ -80,7 +84,7 @@ struct blend_catalogue blend_catalogue(const uint8_t *payload, size_t length, ui
                                        size_t types_numbers, uint64_t *structs, size_t structs_numbers, uint64_t *fields, size_t fields_numbers);
 
 /* What a field's name says: kind 0 a value, 1 an array, 2 a pointer, 3 an array of pointers, 4 a function pointer; where the bare name stands in it, and what was left
- * over after it (the rest, mostly nothing); how many asterisks (0 for no pointer); the length of an array, which is the product of its dimensions (1 for no
+ * over after it (the rest, which ends where the name ends: what is no part of the declarator, mostly nothing); how many asterisks (0 for no pointer); the length of an array, which is the product of its dimensions (1 for no
  * array), and how many dimensions there are (0 for no array). The dimensions go into the table, in order. Refusals 9, 11, 10, in this order. */
 struct blend_field {
     uint64_t refusal, needed, kind, name_at, name_length, rest_at, rest_length, indirection, length, dimensions;
@@ -96,7 +100,7 @@ struct blend_value {
  * length counts for arrays, the type's size for values and arrays of them. A number that is no kind counts as a value. Refusal 10. */
 struct blend_value blend_width(uint64_t kind, uint64_t length, uint64_t size, uint64_t pointer_bytes);
 
-/* Where a row's payload stands in the file, if the table has the row and the file that part. Refusal 13. */
+/* Where a row's payload stands in the file, if the table has the row and the file that part; a payload of no bytes is there, also at the file's end. Refusal 13. */
 struct blend_view {
     uint64_t refusal, at, length;
 };

@@ -9,8 +9,8 @@ use borrow.Author.Tests.{le-leb, lt-leb, leb-true}
 use lib.Dec.{leb}
 use lib.ListN.{length, drop, getD, drop-of-length-le}
 use lib.Seq.{drop-cons}
+use Rattle.primitive.specs.Ascii.{isDigit}
 use Rattle.primitive.proofs.Tests.{held, failed}
-use Rattle.dna.specs.Declarators.{isDigit}
 use Rattle.blend.specs.Header.{decimal}
 
 module _ (n b : ℕ) where

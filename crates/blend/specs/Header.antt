@@ -7,7 +7,7 @@ use Rattle.primitive.specs.declared.Endianness.{Endianness}
 use Rattle.primitive.specs.declared.Endianness.the-variants.{Little, Big}
 use Rattle.primitive.specs.declared.PointerSize.{PointerSize}
 use Rattle.primitive.specs.declared.PointerSize.the-variants.{Bits32, Bits64}
-use Rattle.primitive.specs.Ascii.{ascii}
+use Rattle.primitive.specs.Ascii.{ascii, isDigit}
 use Rattle.primitive.specs.Number.{tag}
 use Rattle.primitive.specs.Paper.{Paper}
 use Rattle.primitive.specs.Paper.Paper.{accepts, refuses}
@@ -16,7 +16,6 @@ use Rattle.primitive.specs.Reader.{Reader, Outcome}
 use Rattle.primitive.specs.Reader.Reader.{done, refuse, bytes, begins}
 use Rattle.primitive.specs.Reader.Outcome.{read, fault}
 use Rattle.primitive.specs.Refusals.{compressedFileNotSupported, paperFault}
-use Rattle.dna.specs.Declarators.{isDigit}
 use Rattle.blend.specs.declared.FileFormat.{FileFormat}
 use Rattle.blend.specs.declared.FileFormat.the-variants.{Legacy, New}
 use Rattle.blend.specs.declared.Version.{Version}

@@ -6,7 +6,7 @@ use Rattle.primitive.specs.Ascii.{ascii}
 use Rattle.primitive.specs.Paper.Paper.{refuses}
 use Rattle.primitive.specs.Reader.{run, then, times}
 use Rattle.dna.specs.Catalogue.{catalogue, listed, strings, sized, struct, structured, fieldCount}
-use Rattle.dna.specs.Declarators.{isFunction, taken, groups, spanned, digits, decimal, numbers, product, pointerOrValue, declared}
+use Rattle.field.specs.Declarators.{isFunction, taken, groups, spanned, digits, decimal, numbers, product, pointerOrValue, declared}
 use Rattle.blend.specs.declared.blend.BlendAnswer.{BlendAnswer}
 use Rattle.blend.specs.Blocks.{fields, blockHeader, kindOf, block, rowAt, finished, boundaryOf}
 use Rattle.blend.specs.Chain.{chain, chainFrom, fileBy, readAs, rowTable}

@@ -7,8 +7,9 @@ use Rattle.primitive.specs.declared.cursor.Cursor.{Cursor}
 use Rattle.primitive.specs.Cursor.{numbered, moved, counted, begun}
 use Rattle.primitive.specs.Primitive.{paperU8, paperU16, paperU32, paperU64, paperI8, paperI16, paperI32, paperI64, paperF32, paperF64}
 use Rattle.primitive.proofs.Lossless.{wholeU8, wholeU16, wholeU32, wholeU64, wholeI8, wholeI16, wholeI32, wholeI64, wholeF32, wholeF64, at-one, wholeNumbered, wholeMoved, wholeCounted, wholeBegun}
-use Rattle.dna.specs.Declarators.{paperFunction, paperField, paperWidth}
-use Rattle.dna.proofs.Lossless.{wholeField, wholeFunction, wholeWidth, oneFilling, wholeCounted as wholeCountedDna}
+use Rattle.field.specs.Declarators.{paperFunction, paperField, paperWidth}
+use Rattle.dna.proofs.Lossless.{oneFilling, wholeCounted as wholeCountedDna}
+use Rattle.field.proofs.Lossless.{wholeField, wholeFunction, wholeWidth}
 use Rattle.blend.specs.declared.walker.Place.{Place}
 use Rattle.blend.specs.Header.{pointerSizeRead, endiannessRead, versionRead, paperHeader}
 use Rattle.blend.specs.Chain.{paperBlend}
@@ -72,11 +73,11 @@ one-outcome =
       «primitive::primitive::blender_name_i64» = given _;
       «dna::dna::dna_counts» = λ payload endianness. λ r q a b. wholeCountedDna r q (a .1 ∙ sym (b .1));
       «dna::dna::dna» = λ payload endianness names types structs fields. λ r n t s f q m u v g a b. oneFilling _ r q names types structs fields _ _ _ _ _ _ _ _ a b;
-      «dna::field::fn_pointer» = λ name. told paperFunction wholeFunction _;
-      «dna::field::scan_field» = λ name. told paperField wholeField _;
-      «dna::field::parse_field» = λ name dimensions. told paperField wholeField _;
-      «dna::field::parse_field:dimensions» = λ name dimensions. given _;
-      «dna::field::width» = λ d size «pointer_size». told paperWidth wholeWidth _;
+      «field::field::fn_pointer» = λ name. told paperFunction wholeFunction _;
+      «field::field::scan_field» = λ name. told paperField wholeField _;
+      «field::field::parse_field» = λ name dimensions. told paperField wholeField _;
+      «field::field::parse_field:dimensions» = λ name dimensions. given _;
+      «field::field::width» = λ d size «pointer_size». told paperWidth wholeWidth _;
       «blend::FileFormat::header_len» = λ self. given _;
       «blend::FileFormat::block_header_len» = λ self «pointer_size». given _;
       «blend::Header::new» = λ «pointer_size» endianness version format. given _;

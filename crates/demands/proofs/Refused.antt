@@ -8,7 +8,7 @@ use Rattle.primitive.specs.Paper.Paper.{accepts, integer, real, refuses}
 use Rattle.primitive.specs.Reader.{run}
 use Rattle.primitive.specs.Tables.{written}
 use Rattle.dna.specs.Catalogue.{catalogue, rooms, readAs as catalogueAs}
-use Rattle.dna.specs.Declarators.{declared, parsedAs}
+use Rattle.field.specs.Declarators.{declared, parsedAs}
 use Rattle.blend.specs.Chain.{fileBy, perRow, readAs}
 use Rattle.blend.specs.Header.{headerBytes}
 use Rattle.exports.specs.declared.BlendField.{BlendField}

@@ -8,7 +8,7 @@ use Rattle.primitive.specs.declared.PointerSize.the-variants.{Bits64}
 use Rattle.primitive.specs.Ascii.{ascii}
 use Rattle.primitive.specs.Paper.{Paper}
 use Rattle.primitive.specs.Paper.Paper.{refuses}
-use Rattle.dna.specs.Declarators.{declared, told, parsedAs, dimensionsOf}
+use Rattle.field.specs.Declarators.{declared, told, parsedAs, dimensionsOf}
 use Rattle.blend.specs.declared.FileFormat.the-variants.{Legacy}
 use Rattle.blend.specs.declared.blend.RawBlend.{RawBlend}
 use Rattle.blend.specs.declared.blend.BlendAnswer.{BlendAnswer}

@@ -37,12 +37,12 @@ use Rattle.primitive.specs.Reader.{run, before, stands}
 use Rattle.primitive.specs.Reader.Reader.{done, bytes, skip, string, begins}
 use Rattle.dna.specs.declared.dna.DnaCounted.{DnaCounted}
 use Rattle.dna.specs.declared.dna.DnaTables.{DnaTables}
-use Rattle.dna.specs.declared.field.Declarator.{Declarator}
-use Rattle.dna.specs.declared.field.FnPointerField.{FnPointerField}
-use Rattle.dna.specs.declared.field.ParsedField.{ParsedField}
-use Rattle.dna.specs.declared.field.FieldWidth.{FieldWidth}
+use Rattle.field.specs.declared.field.Declarator.{Declarator}
+use Rattle.field.specs.declared.field.FnPointerField.{FnPointerField}
+use Rattle.field.specs.declared.field.ParsedField.{ParsedField}
+use Rattle.field.specs.declared.field.FieldWidth.{FieldWidth}
 use Rattle.dna.specs.Catalogue.{catalogue, countedAs, paperCounted, countsOnly, outcomeOf, Filled}
-use Rattle.dna.specs.Declarators.{declared, functionAs, scannedAs, parsedAs, filledBy, widthAs, paperFunction, paperField, paperWidth}
+use Rattle.field.specs.Declarators.{declared, functionAs, scannedAs, parsedAs, filledBy, widthAs, paperFunction, paperField, paperWidth}
 use Rattle.blend.specs.declared.FileFormat.{FileFormat}
 use Rattle.blend.specs.declared.Version.{Version}
 use Rattle.blend.specs.declared.Header.{Header}
@@ -124,11 +124,11 @@ pub record OneOutcome : Type 0 where
   -- Declarators and the catalogue: `dna`
   pub «dna::dna::dna_counts» : (payload : List ℕ) (endianness : Endianness) → Only (λ (r : DnaCounted). (paperCounted r ≡ countedAs (run (catalogue endianness) payload 0)) × (outcomeOf r ≡ countsOnly (run (catalogue endianness) payload 0)))
   pub «dna::dna::dna» : (payload : List ℕ) (endianness : Endianness) (names types structs fields : List ℕ) → OnlyTables (λ (r : DnaTables) names′ types′ structs′ fields′. Filled (run (catalogue endianness) payload 0) r names types structs fields names′ types′ structs′ fields′)
-  pub «dna::field::fn_pointer» : (name : List ℕ) → Only (λ (r : FnPointerField). paperFunction r ≡ functionAs name)
-  pub «dna::field::scan_field» : (name : List ℕ) → Only (λ (r : ParsedField). paperField r ≡ scannedAs (declared name))
-  pub «dna::field::parse_field» : (name dimensions : List ℕ) → Only (λ (r : ParsedField). paperField r ≡ parsedAs (declared name) (length dimensions))
-  pub «dna::field::parse_field:dimensions» : (name dimensions : List ℕ) → Only (λ (dimensions′ : List ℕ). dimensions′ ≡ filledBy (declared name) dimensions)
-  pub «dna::field::width» : (d : Declarator) (size : ℕ) («pointer_size» : PointerSize) → Only (λ (r : FieldWidth). paperWidth r ≡ widthAs d size «pointer_size»)
+  pub «field::field::fn_pointer» : (name : List ℕ) → Only (λ (r : FnPointerField). paperFunction r ≡ functionAs name)
+  pub «field::field::scan_field» : (name : List ℕ) → Only (λ (r : ParsedField). paperField r ≡ scannedAs (declared name))
+  pub «field::field::parse_field» : (name dimensions : List ℕ) → Only (λ (r : ParsedField). paperField r ≡ parsedAs (declared name) (length dimensions))
+  pub «field::field::parse_field:dimensions» : (name dimensions : List ℕ) → Only (λ (dimensions′ : List ℕ). dimensions′ ≡ filledBy (declared name) dimensions)
+  pub «field::field::width» : (d : Declarator) (size : ℕ) («pointer_size» : PointerSize) → Only (λ (r : FieldWidth). paperWidth r ≡ widthAs d size «pointer_size»)
   -- Header, blocks and chain: `blend`
   pub «blend::FileFormat::header_len» : (self : FileFormat) → Only (λ (r : ℕ). r ≡ headerLength self)
   pub «blend::FileFormat::block_header_len» : (self : FileFormat) («pointer_size» : PointerSize) → Only (λ (r : ℕ). r ≡ blockHeaderLength self «pointer_size»)

@@ -8,9 +8,9 @@ use Rattle.primitive.specs.Paper.{Paper}
 use Rattle.primitive.specs.Paper.Paper.{refuses}
 use Rattle.primitive.specs.Reader.{run}
 use Rattle.dna.specs.declared.dna.DnaTables.{DnaTables}
-use Rattle.dna.specs.declared.field.ParsedField.{ParsedField}
+use Rattle.field.specs.declared.field.ParsedField.{ParsedField}
 use Rattle.dna.specs.Catalogue.{catalogue, paperTables, Filled}
-use Rattle.dna.specs.Declarators.{declared, parsedAs, filledBy, paperField}
+use Rattle.field.specs.Declarators.{declared, parsedAs, filledBy, paperField}
 use Rattle.blend.specs.declared.blend.BlendAnswer.{BlendAnswer}
 use Rattle.blend.specs.Chain.{fileBy, perRow, readAs, tableAfter, paperBlend}
 use Rattle.blend.specs.Header.{headerBytes}

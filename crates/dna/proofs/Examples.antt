@@ -11,28 +11,6 @@ use Rattle.primitive.specs.Looks.{looks}
 use Rattle.primitive.specs.Reader.{run, then, times}
 use Rattle.primitive.specs.Reader.Outcome.{read, fault}
 use Rattle.dna.specs.Catalogue.{catalogue, listed, strings, sized, struct, structured, padding, rooms, readAs, answerFor, fieldCount, pairs, typeRows, structRows, fieldRows, namesTable, typesTable, structsTable, fieldsTable}
-use Rattle.dna.specs.Declarators.{isFunction, taken, groups, spanned, digits, decimal, numbers, product, pointerOrValue, declared, scannedAs, parsedAs, filledBy}
-
--- an array with no complete bracket; no number; a sign; a pointer array
-arrays : (scannedAs (declared (ascii "a[3")) ≡ accepts 1 (0 ∷ 1 ∷ 1 ∷ 2 ∷ 1 ∷ 0 ∷ [])) × (scannedAs (declared (ascii "a[]")) ≡ refuses 9 [])
-    × (scannedAs (declared (ascii "a[+3]")) ≡ accepts 1 (0 ∷ 1 ∷ 5 ∷ 0 ∷ 3 ∷ 1 ∷ []))
-    × (scannedAs (declared (ascii "*m[2][3]")) ≡ accepts 3 (1 ∷ 1 ∷ 8 ∷ 0 ∷ 1 ∷ 6 ∷ 2 ∷ []))
-unfolding declared pointerOrValue isFunction groups taken spanned numbers decimal digits product
-arrays = (refl, refl, refl, refl)
-
--- what looks like a function pointer, one, and a name with no bytes
-others : (scannedAs (declared (ascii "(*f)")) ≡ accepts 0 (0 ∷ 4 ∷ 4 ∷ 0 ∷ [])) × (scannedAs (declared (ascii "(*f)()")) ≡ accepts 4 (2 ∷ 1 ∷ 6 ∷ 0 ∷ []))
-    × (scannedAs (declared []) ≡ accepts 0 (0 ∷ 0 ∷ 0 ∷ 0 ∷ []))
-unfolding declared pointerOrValue isFunction groups taken spanned numbers decimal digits product
-others = (refl, refl, refl)
-
--- 9 before 11 before 10, and a 0 after numbers that are too large together
-orders : (parsedAs (declared (ascii "a[x][1]")) 1 ≡ refuses 9 []) × (parsedAs (declared (ascii "a[18446744073709551615][2]")) 1 ≡ refuses 11 (2 ∷ []))
-    × (parsedAs (declared (ascii "a[18446744073709551615][2]")) 2 ≡ refuses 10 [])
-    × (filledBy (declared (ascii "a[18446744073709551615][2][0]")) (7 ∷ 7 ∷ 7 ∷ 7 ∷ []) ≡ 18446744073709551615 ∷ 2 ∷ 0 ∷ 7 ∷ [])
-    × (filledBy (declared (ascii "a[18446744073709551615][2]")) (7 ∷ 7 ∷ 7 ∷ []) ≡ 7 ∷ 7 ∷ 7 ∷ [])
-unfolding declared pointerOrValue isFunction groups taken spanned numbers decimal digits product
-orders = (refl, refl, refl, refl, refl)
 
 -- A catalogue with the name "x", the type "int" of size 4 and one struct of type 0 with the field (0, 0); its padding holds sevens.
 unfoldable small : List ℕ

@@ -1,5 +1,3 @@
--- The rules of the catalogue's layer.
-pub mod Declarators
+-- The rules of the catalogue.
 pub mod Catalogue
 pub mod Passes
-pub mod Helpers

@@ -1,2 +1,1 @@
 pub mod dna;
-pub mod field;

@@ -1,14 +1,14 @@
 // Runs the examples of declarators and of their widths, and prints each answer; the file stdout has what they have to be.
-use dna::field::Declarator;
-use dna::field::FieldInfo;
-use dna::field::FieldWidth;
-use dna::field::FnPointerField;
-use dna::field::ParsedField;
-use dna::field::Place;
-use dna::field::fn_pointer;
-use dna::field::parse_field;
-use dna::field::scan_field;
-use dna::field::width;
+use field::field::Declarator;
+use field::field::FieldInfo;
+use field::field::FieldWidth;
+use field::field::FnPointerField;
+use field::field::ParsedField;
+use field::field::Place;
+use field::field::fn_pointer;
+use field::field::parse_field;
+use field::field::scan_field;
+use field::field::width;
 use libc::STDOUT_FILENO;
 use primitive::PointerSize;
 

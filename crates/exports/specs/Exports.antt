@@ -13,8 +13,8 @@ use Rattle.primitive.specs.declared.PointerSize.the-variants.{Bits32, Bits64}
 use Rattle.primitive.specs.Paper.{Paper}
 use Rattle.primitive.specs.Paper.Paper.{accepts, integer, real, refuses}
 use Rattle.primitive.specs.Reader.{Outcome}
-use Rattle.dna.specs.declared.field.Declarator.{Declarator}
-use Rattle.dna.specs.declared.field.FieldInfo.{FieldInfo}
+use Rattle.field.specs.declared.field.Declarator.{Declarator}
+use Rattle.field.specs.declared.field.FieldInfo.{FieldInfo}
 use Rattle.dna.specs.Catalogue.{Dna, rooms, readAs, namesTable, typesTable, structsTable, fieldsTable}
 use Rattle.exports.specs.declared.BlendHeader.{BlendHeader}
 use Rattle.exports.specs.declared.BlendRead.{BlendRead}

@@ -4,10 +4,10 @@ use crate::out::end;
 use crate::out::number;
 use crate::out::text;
 use crate::out::word;
-use dna::field::Declarator;
-use dna::field::FieldInfo;
-use dna::field::ParsedField;
-use dna::field::parse_field;
+use field::field::Declarator;
+use field::field::FieldInfo;
+use field::field::ParsedField;
+use field::field::parse_field;
 
 // Where the name starts, how long it is, and where the rest starts.
 fn places(space: &mut [u8; SIZE], at: &mut usize, d: Declarator) {

@@ -1,6 +1,6 @@
 -- `blend_field`: what `parse_field` answers, and what it leaves in the table of dimensions.
 use mathlib.Core.Path.{sym, _∙_, ap}
-use Rattle.dna.specs.Declarators.{paperField}
+use Rattle.field.specs.Declarators.{paperField}
 use Rattle.exports.specs.Exports.{fieldOut}
 use borrow.Author.Needs.{needs}
 use Rattle.exports.proofs.blend_field.Statement.{statement}

@@ -1,6 +1,6 @@
 -- `blend_width`: the width of a declarator by its kind and length, or refusal 10.
 use mathlib.Core.Path.{sym, _∙_, ap}
-use Rattle.dna.specs.Declarators.{paperWidth}
+use Rattle.field.specs.Declarators.{paperWidth}
 use Rattle.exports.specs.Exports.{valueOut}
 use borrow.Author.Needs.{needs}
 use Rattle.exports.proofs.blend_width.Statement.{statement}

@@ -1,0 +1,3 @@
+-- The rules of declarators.
+pub mod Declarators
+pub mod Helpers
