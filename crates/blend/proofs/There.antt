@@ -1,54 +1,34 @@
 -- A block header all of which is there: what its tree finds, and the row of a block that reads.
 use Prim.Native.Nat.{ℕ, suc, _+_, _-_, _≤_, _<_}
 use mathlib.Core.Bool.{Bool, true, false}
-use mathlib.Core.List.{List, []}
+use mathlib.Core.List.{List}
 use mathlib.Core.Path.{_≡_, refl, sym, _∙_, ap}
 use native.Mathlib.Omega.{arith}
-use borrow.Author.Tests.{le-leb, eqb-true, eqb-false}
+use borrow.Author.Tests.{eqb-true, eqb-false}
 use lib.Dec.{eqb}
-use lib.ListN.{length, take, drop}
-use lib.Seq.{take-take}
+use lib.ListN.{length}
 use Rattle.primitive.specs.declared.Endianness.{Endianness}
 use Rattle.primitive.specs.declared.Endianness.the-variants.{Big}
 use Rattle.primitive.specs.declared.Fault.the-variants.{Refusal}
 use Rattle.primitive.specs.declared.PointerSize.{PointerSize}
 use Rattle.primitive.specs.declared.PointerSize.the-variants.{Bits32, Bits64}
-use Rattle.primitive.specs.Helpers.{goOn}
-use Rattle.primitive.specs.Number.{spelled, number}
-use Rattle.primitive.specs.Paper.Paper.{refuses}
+use Rattle.primitive.specs.Helpers.{goOn, numberAt}
+use Rattle.primitive.specs.Number.{number}
 use Rattle.primitive.specs.PointerSize.{pointerBytes}
-use Rattle.primitive.specs.Primitive.{valueOf, unsigned}
 use Rattle.primitive.specs.Reader.{Outcome, run}
 use Rattle.primitive.specs.Reader.Reader.{done, skip}
 use Rattle.primitive.specs.Reader.Outcome.{read, fault}
 use Rattle.primitive.proofs.Tests.{held, failed}
-use Rattle.primitive.proofs.Values.{long-enough}
+use Rattle.primitive.proofs.Reading.{number-there}
 use Rattle.blend.specs.declared.FileFormat.{FileFormat}
 use Rattle.blend.specs.declared.FileFormat.the-variants.{Legacy, New}
 use Rattle.blend.specs.declared.Header.{Header}
 use Rattle.blend.specs.declared.BlockHeader.{BlockHeader}
 use Rattle.blend.specs.declared.Row.{Row}
 use Rattle.blend.specs.Blocks.{blockHeaderLength, blockHeader, rowOf, rowAt}
-use Rattle.blend.specs.Helpers.{otherWidth, otherOrder, made, four, numberAt, headerOf, headerAt, withAddress, rowsFrom}
+use Rattle.blend.specs.Helpers.{otherWidth, otherOrder, made, four, headerOf, headerAt, withAddress, rowsFrom}
 use Rattle.blend.proofs.Layouts.{address-null, address-read, four-no-address, four-read, block-header-on}
-use Rattle.blend.proofs.Rows.{skip-room, part-long, row-headed, payload-fits, row-lies}
-
--- a value of a slice that is as long as it
-module _ (w : ℕ) (e : Endianness) (s : List ℕ) (at : ℕ) (h : at + w ≤ length s) where
-  value-there : valueOf w unsigned e (take (at + w - at) (drop at s)) ≡ unsigned (numberAt e w s at)
-  value-there =
-      sym (long-enough w unsigned e (take (at + w - at) (drop at s)) (omega (arith, part-long s at w h)) _ (ap (spelled e) (sym (take-take w (at + w - at) (drop at s) (omega arith)))))
-
-  pub value-is : (n : ℕ) → unsigned n ≡ valueOf w unsigned e (take (at + w - at) (drop at s)) → n ≡ numberAt e w s at
-  value-is n g =
-      let k : unsigned n ≡ unsigned (numberAt e w s at) = g ∙ value-there in
-      cc
-
-  pub value-lacks : {A : Type 0} → refuses 12 [] ≡ valueOf w unsigned e (take (at + w - at) (drop at s)) → A
-  value-lacks g =
-      let k : refuses 12 [] ≡ unsigned (numberAt e w s at) = g ∙ value-there in
-      let z : _≡_ {A = ℕ} 0 1 = cc in
-      absurd (omega arith)
+use Rattle.blend.proofs.Rows.{skip-room, row-headed, payload-fits, row-lies}
 
 -- the numbers of a block header, one after another
 pub length-parts : (f : FileFormat) (p : PointerSize) → blockHeaderLength f p ≡ 8 + pointerBytes p + otherWidth f + otherWidth f
@@ -56,10 +36,6 @@ length-parts Legacy Bits32 = refl
 length-parts Legacy Bits64 = refl
 length-parts New Bits32 = refl
 length-parts New Bits64 = refl
-
-number-there : (e : Endianness) (w : ℕ) (s : List ℕ) (at next : ℕ) → next ≡ at + w → next ≤ length s → read (numberAt e w s at) next ≡ run (number e w done) s at
-unfolding run
-number-there e w s at next q h = rw q (sym (held _ _ (le-leb _ _ (rw q at h))))
 
 as-made : (f : FileFormat) (p : ℕ) (e : Endianness) (s : List ℕ) (at : ℕ) → headerOf f p e s at
     ≡ made f (numberAt Big 4 s at) (numberAt (otherOrder f e) 4 s (at + 4)) (numberAt e p s (at + 8)) (numberAt (otherOrder f e) (otherWidth f) s (at + 8 + p))

@@ -3,13 +3,13 @@ use Prim.Native.Nat.{ℕ, zero, suc, _+_}
 use mathlib.Core.Bool.{true, false}
 use mathlib.Core.List.{List, [], _++_}
 use lib.Dec.{eqb}
-use lib.ListN.{length, take, drop}
+use lib.ListN.{length}
 use Rattle.primitive.specs.declared.Endianness.{Endianness}
 use Rattle.primitive.specs.declared.Endianness.the-variants.{Little, Big}
 use Rattle.primitive.specs.declared.Fault.the-variants.{Refusal}
 use Rattle.primitive.specs.declared.PointerSize.{PointerSize}
-use Rattle.primitive.specs.Helpers.{goOn}
-use Rattle.primitive.specs.Number.{spelled, number}
+use Rattle.primitive.specs.Helpers.{goOn, numberAt}
+use Rattle.primitive.specs.Number.{number}
 use Rattle.primitive.specs.PointerSize.{pointerBytes}
 use Rattle.primitive.specs.Reader.{Reader, Outcome}
 use Rattle.primitive.specs.Reader.Reader.{done, refuse, bytes}
@@ -68,10 +68,6 @@ made New code a n b c = record { code = code; size = b; address = n; index = a; 
 abbrev pub four : Header → ℕ → ℕ → Endianness → Reader BlockHeader
 four h code w e =
     number e 4 (λ a. number (h .endianness) (pointerBytes (h .«pointer_size»)) (λ n. tested address n (number e w (λ b. number e w (λ c. done (made (h .format) code a n b c))))))
-
--- the number of w bytes that stands at a place
-abbrev pub numberAt : Endianness → ℕ → List ℕ → ℕ → ℕ
-numberAt e w s at = spelled e (take w (drop at s))
 
 -- a block header all of which stands at a place; p is how many bytes its address has
 abbrev pub headerOf : FileFormat → ℕ → Endianness → List ℕ → ℕ → BlockHeader

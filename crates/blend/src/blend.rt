@@ -29,7 +29,7 @@ ghost use Rattle.primitive.specs.Reader.{run};
 ghost use Rattle.primitive.specs.Reader.Reader.{done, bytes};
 ghost use Rattle.primitive.specs.Number as numbers;
 ghost use Rattle.primitive.specs.Cursor.{widthOf, numbered};
-ghost use Rattle.primitive.specs.Helpers.{put, Placed};
+ghost use Rattle.primitive.specs.Helpers.{numberAt, put, Placed};
 ghost use Rattle.primitive.specs.PointerSize.{pointerBytes};
 ghost use Rattle.primitive.specs.Refusals.{paperFault};
 ghost use Rattle.primitive.specs.Paper.Paper.{refuses};
@@ -38,7 +38,7 @@ ghost use Rattle.blend.specs.Blocks as blocks;
 ghost use Rattle.blend.specs.Chain as chains;
 ghost use Rattle.primitive.specs.Tables.{written};
 ghost use Rattle.blend.specs.Helpers as helpers;
-ghost use Rattle.blend.specs.Helpers.{headerRead, newOrder, otherWidth, otherOrder, four, numberAt, headerAt, withAddress, blockHeaderRead, taking, rowRead, memoryAddress, summed, summedAs, rowsFrom};
+ghost use Rattle.blend.specs.Helpers.{headerRead, newOrder, otherWidth, otherOrder, four, headerAt, withAddress, blockHeaderRead, taking, rowRead, memoryAddress, summed, summedAs, rowsFrom};
 
 // What a mark stands for, or a version, or a header, and the place after it.
 pub enum PointerSizeRead {

@@ -111,7 +111,7 @@ module _ (s : List ℕ) (n at : ℕ) where
 
 -- a tree that takes as many bytes wherever it reads takes n times as many in n turns
 module _ {A : Type 0} (r : Reader A) (s : List ℕ) (w : ℕ) (fixed : (at : ℕ) (a : A) (next : ℕ) → run r s at ≡ read a next → next ≡ at + w) where
-  all-move : (n at end : ℕ) → read tt end ≡ past (run (times n r) s at) → end ≡ at + w * n
+  pub all-move : (n at end : ℕ) → read tt end ≡ past (run (times n r) s at) → end ≡ at + w * n
   all-move zero at end h =
       let k : _≡_ {A = Outcome (Unit {0})} (read tt end) (read tt at) = h ∙ sym (past-none r s at) in
       let q : end ≡ at = cc in
@@ -200,7 +200,7 @@ module _ (e : Endianness) (m s : List ℕ) (at : ℕ) where
   listed-on next h = tag-on s at m (number e 4 strings) next h
 
 -- where a field record and a struct's fields end
-field-moves : (e : Endianness) (s : List ℕ) (at : ℕ) (f : ℕ × ℕ) (next : ℕ) → run (field e) s at ≡ read f next → next ≡ at + 4
+pub field-moves : (e : Endianness) (s : List ℕ) (at : ℕ) (f : ℕ × ℕ) (next : ℕ) → run (field e) s at ≡ read f next → next ≡ at + 4
 field-moves e s at f next h = first-part (run (number e 2 done) s at) refl
   where
     second-part : (t mid : ℕ) → run (number e 2 done) s at ≡ read t mid → (o : Outcome ℕ) → run (number e 2 done) s mid ≡ o → next ≡ at + 4
@@ -222,11 +222,6 @@ module _ (e : Endianness) (s : List ℕ) (at t next n from last : ℕ) (h : read
     (g : read tt last ≡ past (run (times n (field e)) s from)) where
   pub struct-headed : headed (run (struct e) s at) ≡ read (t, n) last
   struct-headed = ap headed (struct-read e s at t next h n from k last g) ∙ ap (λ (m : ℕ). read (t, m) last) (all-many (field e) s n from last g)
-
-  pub struct-room : at + 4 + n ≤ last
-  struct-room =
-      omega
-      (arith, number-moves e s 2 at t next (sym h), number-moves e s 2 next n from (sym k), all-move (field e) s 4 (field-moves e s) n from last g)
 
 -- what a struct's head tells of it
 pub headed-read : (o : Outcome Struct) (t n next : ℕ) → headed o ≡ read (t, n) next → (u : Struct) × (o ≡ read u next) × (u .0 ≡ t) × (length (u .1) ≡ n)

@@ -10,16 +10,18 @@ use lib.Dec.{leb}
 use lib.ListN.{length}
 use Rattle.primitive.specs.declared.Endianness.{Endianness}
 use Rattle.primitive.specs.declared.Fault.the-variants.{Cut}
-use Rattle.primitive.specs.Helpers.{past}
+use Rattle.primitive.specs.Helpers.{numberAt, past}
 use Rattle.primitive.specs.Number.{number}
 use Rattle.primitive.specs.Reader.{Reader, Outcome, run, times, room}
 use Rattle.primitive.specs.Reader.Reader.{done}
 use Rattle.primitive.specs.Reader.Outcome.{read, fault}
+use Rattle.primitive.proofs.Onward.{number-moves}
+use Rattle.primitive.proofs.Reading.{number-there}
 use Rattle.primitive.proofs.Tests.{held, failed}
 use Rattle.primitive.proofs.Times.{past-none, past-more, times-stops}
 use Rattle.dna.specs.Catalogue.{size, field}
 use Rattle.dna.specs.Passes.{shortsFrom}
-use Rattle.dna.proofs.Counting.{field-stops, field-stops-later, field-read}
+use Rattle.dna.proofs.Counting.{field-stops, field-stops-later, field-read, field-moves, all-move}
 
 abbrev Reached : Type 0
 Reached = Outcome (Unit {0})
@@ -128,3 +130,50 @@ module _ (s : List ℕ) where
 
       pub fields-cut : shortsFrom s at / 2 < n → fault (Cut (at + 2 * shortsFrom s at)) ≡ past (run (times n (field e)) s at)
       fields-cut h = sym (times-reach (field e) 2 field-reach n at ∙ cut (2 * n) at (omega arith))
+
+-- what was read is there
+number-within : (e : Endianness) (s : List ℕ) (w at n next : ℕ) → run (number e w done) s at ≡ read n next → next ≤ length s
+unfolding run
+number-within e s w at n next h = go (room s at w) refl
+  where
+    go : (b : Bool) → room s at w ≡ b → next ≤ length s
+    go true t =
+        let q : _≡_ {A = Outcome ℕ} (read (numberAt e w s at) (at + w)) (read n next) = sym (held _ _ t) ∙ h in
+        let z : at + w ≡ next = cc in
+        let k : at + w ≤ length s = leb-true _ _ t in
+        omega arith
+    go false t =
+        let q : _≡_ {A = Outcome ℕ} (fault (Cut at)) (read n next) = sym (failed _ _ t) ∙ h in
+        let z : _≡_ {A = ℕ} 0 1 = cc in
+        absurd (omega arith)
+
+fields-within : (s : List ℕ) (e : Endianness) (n from last : ℕ) → read tt last ≡ past (run (times n (field e)) s from) → from ≤ length s → last ≤ length s
+fields-within s e n from last g h = go (leb (2 * n) (shortsFrom s from)) refl (g ∙ times-reach s (field e) 2 (field-reach s e) n from)
+  where
+    go : (b : Bool) → leb (2 * n) (shortsFrom s from) ≡ b → read tt last ≡ reach s (2 * n) from → last ≤ length s
+    go true t k =
+        let u : 2 * n ≤ shortsFrom s from = leb-true _ _ t in
+        let q : _≡_ {A = Reached} (read tt last) (read tt (from + 2 * (2 * n))) = k ∙ held _ _ t in
+        let z : last ≡ from + 2 * (2 * n) = cc in
+        omega arith
+    go false t k =
+        let q : _≡_ {A = Reached} (read tt last) (fault (Cut (from + 2 * shortsFrom s from))) = k ∙ failed _ _ t in
+        let z : _≡_ {A = ℕ} 0 1 = cc in
+        absurd (omega arith)
+
+-- a struct's fields: where they end, and that they are there
+module _ (e : Endianness) (s : List ℕ) (at t next n from last : ℕ) (h : read t next ≡ run (number e 2 done) s at) (k : read n from ≡ run (number e 2 done) s next)
+    (g : read tt last ≡ past (run (times n (field e)) s from)) where
+  pub struct-ends : last ≡ at + 4 + 4 * n
+  struct-ends =
+      omega
+      (arith, number-moves e s 2 at t next (sym h), number-moves e s 2 next n from (sym k), all-move (field e) s 4 (field-moves e s) n from last g)
+
+  pub struct-within : last ≤ length s
+  struct-within = fields-within s e n from last g (number-within e s 2 next n from (sym k))
+
+-- a field record that is there
+pub field-there : (e : Endianness) (s : List ℕ) (at : ℕ) → at + 4 ≤ length s → (t n : ℕ) → t ≡ numberAt e 2 s at → n ≡ numberAt e 2 s (at + 2) → run (field e) s at ≡ read (t, n) (at + 4)
+field-there e s at h t n p q =
+    rw (p, q)
+    (sym (field-read e s at _ (at + 2) (number-there e 2 s at (at + 2) refl (omega arith)) _ (at + 4) (number-there e 2 s (at + 2) (at + 4) (omega arith) h)))

@@ -1,5 +1,5 @@
 -- What the passes over a catalogue ensure, and how their answers stand to the tree. No rule uses it.
-use Prim.Native.Nat.{ℕ, _+_, _-_, _/_, _≤_}
+use Prim.Native.Nat.{ℕ, _+_, _*_, _-_, _/_, _≤_}
 use mathlib.Core.List.{List}
 use mathlib.Core.Path.{_≡_}
 use lib.ListN.{length}
@@ -9,7 +9,6 @@ use Rattle.primitive.specs.Ascii.{ascii}
 use Rattle.primitive.specs.Reader.{Reader, Outcome, then}
 use Rattle.primitive.specs.Reader.Reader.{done}
 use Rattle.primitive.specs.Reader.Outcome.{read, fault}
-use Rattle.dna.specs.declared.dna.FieldRead.{FieldRead}
 use Rattle.dna.specs.declared.dna.Laid.{Laid}
 use Rattle.dna.specs.declared.dna.Layout.{Layout}
 use Rattle.dna.specs.declared.dna.Listed.{Listed}
@@ -30,11 +29,6 @@ abbrev pub SizedIs : Endianness → ℕ → List ℕ → Sized → Outcome (List
 SizedIs e m s (Sized.Are at next) o = (o ≡ read (leading m (size e) s at) next) × (length (leading m (size e) s at) ≡ m)
 SizedIs e m s (Sized.Stopped f) o = o ≡ fault f
 
--- a field record
-abbrev pub fieldRead : FieldRead → Outcome (ℕ × ℕ)
-fieldRead (FieldRead.Is f c) = read (f .«type_index» .0, f .«name_index» .0) (c .at)
-fieldRead (FieldRead.Stopped x) = fault x
-
 -- how many numbers of two bytes stand from a place on, one after another
 abbrev pub shortsFrom : List ℕ → ℕ → ℕ
 shortsFrom s at = (length s - at) / 2
@@ -44,9 +38,9 @@ abbrev pub headed : Outcome Struct → Outcome (ℕ × ℕ)
 headed (read t next) = read (t .0, length (t .1)) next
 headed (fault f) = fault f
 
-abbrev pub OneStructIs : ℕ → OneStruct → Outcome Struct → Type 0
-OneStructIs at (OneStruct.Is t n c) o = (headed o ≡ read (t .0, n) (c .at)) × (at + 4 + n ≤ c .at)
-OneStructIs at (OneStruct.Stopped f) o = o ≡ fault f
+abbrev pub OneStructIs : List ℕ → ℕ → OneStruct → Outcome Struct → Type 0
+OneStructIs s at (OneStruct.Is t n c) o = (headed o ≡ read (t .0, n) (c .at)) × (c .at ≡ at + 4 + 4 * n) × (c .at ≤ length s)
+OneStructIs s at (OneStruct.Stopped f) o = o ≡ fault f
 
 -- all structs after some that had k fields: how many they have together
 abbrev pub totalled : ℕ → Outcome (List Struct) → Outcome ℕ

@@ -6,16 +6,18 @@ use primitive::cursor::Cursor;
 use primitive::cursor::Moved;
 use primitive::cursor::Numbered;
 use primitive::cursor::Width;
+use primitive::primitive::ValueU16;
+use primitive::primitive::parse_u16;
 ghost use mathlib.Core.Path.{_≡_};
 ghost use Prim.Native.Nat.{_+_, _*_, _^_, _≤_, _<_};
 ghost use mathlib.Core.List.{[], _∷_};
 ghost use lib.ListN.{length};
-ghost use Rattle.primitive.specs.Helpers.{past, leading, put};
+ghost use Rattle.primitive.specs.Helpers.{numberAt, past, leading, put};
 ghost use Rattle.primitive.specs.Cursor.{moved};
 ghost use Rattle.primitive.specs.Number.{number};
 ghost use Rattle.primitive.specs.Reader.{run, times};
 ghost use Rattle.dna.specs.Catalogue as rules;
-ghost use Rattle.dna.specs.Passes.{ListedIs, SizedIs, StructsAre, OneStructIs, LaidIs, Spanned, spanOf, fieldRead, totalled, structTotal, shortsFrom, afterNames, afterTypes};
+ghost use Rattle.dna.specs.Passes.{ListedIs, SizedIs, StructsAre, OneStructIs, LaidIs, Spanned, spanOf, totalled, structTotal, shortsFrom, afterNames, afterTypes};
 
 // A number in the list of types, and one in the list of names. Neither stands in for the other.
 pub struct TypeNumber(pub u64);
@@ -62,11 +64,6 @@ pub(crate) enum Sized {
 // A struct without its fields: its type, how many fields it has, and the place after them.
 pub(crate) enum OneStruct {
     Is(TypeNumber, u64, Cursor),
-    Stopped(Fault),
-}
-
-pub(crate) enum FieldRead {
-    Is(DnaField, Cursor),
     Stopped(Fault),
 }
 
@@ -210,25 +207,6 @@ fn sizes(c: Cursor, s: &[u8], e: Endianness, m: u64) -> Sized
     }
 }
 
-// One field record.
-fn field_record(c: Cursor, s: &[u8], e: Endianness) -> FieldRead
-    ensures { λ r. ⌜ fieldRead r ≡ run (rules.field e) (now (s .entry)) (c .at) ⌝ }
-{
-    match c.number(s, Width::Two, e) {
-        Numbered::Stopped(f) => FieldRead::Stopped(f),
-        Numbered::Is(kind, next) => match next.number(s, Width::Two, e) {
-            Numbered::Stopped(f) => FieldRead::Stopped(f),
-            Numbered::Is(name, last) => FieldRead::Is(
-                DnaField {
-                    type_index: TypeNumber(kind),
-                    name_index: NameNumber(name),
-                },
-                last,
-            ),
-        },
-    }
-}
-
 // Past n field records, as past sizes: each is two numbers of two bytes.
 fn fields_past(c: Cursor, s: &[u8], n: u64) -> Moved
     ensures { λ r. ⌜ ((e : Endianness) → moved r ≡ past (run (times n (rules.field e)) (now (s .entry)) (c .at))) ⌝ }
@@ -245,7 +223,7 @@ fn fields_past(c: Cursor, s: &[u8], n: u64) -> Moved
 
 // One struct, past its fields.
 fn one_struct(c: Cursor, s: &[u8], e: Endianness) -> OneStruct
-    ensures { λ r. ⌜ OneStructIs (c .at) r (run (rules.struct e) (now (s .entry)) (c .at)) ⌝ }
+    ensures { λ r. ⌜ OneStructIs (now (s .entry)) (c .at) r (run (rules.struct e) (now (s .entry)) (c .at)) ⌝ }
 {
     match c.number(s, Width::Two, e) {
         Numbered::Stopped(f) => OneStruct::Stopped(f),
@@ -459,7 +437,28 @@ fn put_field(table: &mut [u64], i: usize, f: DnaField) -> usize
     put_two(table, i, kind.0, name.0)
 }
 
-// Writes the rows of one struct's n fields from the place i of the table on, and answers the place after them.
+// A number of two bytes that stands at a place, and a field record that does.
+fn short(s: &[u8], at: usize, e: Endianness) -> u64
+    requires { ⌜ at + 2 ≤ length (now s) ⌝ }
+    ensures { λ r. ⌜ r ≡ numberAt e 2 (now (s .entry)) at ⌝ }
+{
+    match parse_u16(&s[at..at + 2], e) {
+        ValueU16::Is(n) => n as u64,
+        ValueU16::Short => 0,
+    }
+}
+
+fn field_there(s: &[u8], at: usize, e: Endianness) -> DnaField
+    requires { ⌜ at + 4 ≤ length (now s) ⌝ }
+    ensures { λ r. ⌜ (r .«type_index» .0 ≡ numberAt e 2 (now (s .entry)) at) × (r .«name_index» .0 ≡ numberAt e 2 (now (s .entry)) (at + 2)) ⌝ }
+{
+    DnaField {
+        type_index: TypeNumber(short(s, at, e)),
+        name_index: NameNumber(short(s, at + 2, e)),
+    }
+}
+
+// Writes the rows of one struct's n fields, which are there, from the place i of the table on, and answers the place after them.
 fn fill_struct_fields(
     s: &[u8],
     e: Endianness,
@@ -469,23 +468,17 @@ fn fill_struct_fields(
     i: usize,
 ) -> usize
     requires { ⌜ i + length (rules.pairs (leading n (rules.field e) (now s) at)) ≤ length (now table) ⌝ }
+    requires { ⌜ at + 4 * n ≤ length (now s) ⌝ }
     ensures { λ r. ⌜ r ≡ i + length (rules.pairs (leading n (rules.field e) (now (s .entry)) at)) ⌝ }
     ensures { λ _. ⌜ now (table .exit) ≡ put (now (table .entry)) i (rules.pairs (leading n (rules.field e) (now (s .entry)) at)) ⌝ }
 {
-    let mut here = Cursor { at };
+    let mut here = at;
     let mut left = n;
     let mut j = i;
     while 0 < left {
-        match field_record(here, s, e) {
-            FieldRead::Is(f, next) => {
-                j = put_field(table, j, f);
-                here = next;
-                left -= 1;
-            }
-            FieldRead::Stopped(_) => {
-                return j;
-            }
-        }
+        j = put_field(table, j, field_there(s, here, e));
+        here += 4;
+        left -= 1;
     }
     j
 }

@@ -69,13 +69,13 @@ module _ (c : ℕ) (l : List ℕ) (i : ℕ) where
   pub found-never : length l ≤ i → before c (drop i l) ≡ 0
   found-never h = rw (drop-of-length-le l h)
 
--- there was none before i: it is here, or the count goes on
-module _ (c : ℕ) (l : List ℕ) (i : ℕ) (inv : before c l ≡ i + before c (drop i l)) (h : i < length l) where
-  pub count-here : getD l i 0 ≡ c → i ≡ before c l
-  count-here e = omega (arith, found-here c l i h e)
+-- the place of the first, where there was none before i: it is here, or further on
+module _ (c : ℕ) (l : List ℕ) (place i : ℕ) (inv : place ≡ i + before c (drop i l)) (h : i < length l) where
+  pub place-here : getD l i 0 ≡ c → i ≡ place
+  place-here e = omega (arith, found-here c l i h e)
 
-  pub count-on : (getD l i 0 ≡ c → ⊥) → (j : ℕ) → j ≡ i + 1 → before c l ≡ j + before c (drop j l)
-  count-on e j q = rw q (omega (arith, found-later c l i h e))
+  pub place-on : (getD l i 0 ≡ c → ⊥) → (j : ℕ) → j ≡ i + 1 → place ≡ j + before c (drop j l)
+  place-on e j q = rw q (omega (arith, found-later c l i h e))
 
 pub before-le : (c : ℕ) (l : List ℕ) → before c l ≤ length l
 before-le c [] = omega arith

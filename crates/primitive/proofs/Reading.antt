@@ -2,7 +2,7 @@
 use Prim.Native.Nat.{ℕ, _+_, _-_, _≤_, _<_}
 use mathlib.Core.Bool.{Bool, true, false}
 use mathlib.Core.List.{List, []}
-use mathlib.Core.Path.{_≡_, refl, sym, _∙_, ap}
+use mathlib.Core.Path.{_≡_, refl, sym, _∙_}
 use native.Mathlib.Omega.{arith}
 use borrow.Author.Tests.{le-leb, lt-leb, lt-ltb, le-ltb, leb-true, leb-false}
 use lib.Dec.{leb}
@@ -11,6 +11,7 @@ use lib.Seq.{take-all}
 use Rattle.primitive.specs.declared.Endianness.{Endianness}
 use Rattle.primitive.specs.declared.Fault.the-variants.{Cut, Mark}
 use Rattle.primitive.specs.Cursor.{partOf}
+use Rattle.primitive.specs.Helpers.{numberAt}
 use Rattle.primitive.specs.Number.{spelled, number, tag}
 use Rattle.primitive.specs.Reader.{Reader, Outcome, run, then, room, zeroEnded, stands, toZero}
 use Rattle.primitive.specs.Reader.Reader.{done, refuse, stray, here, bytes, skip, string, begins}
@@ -106,16 +107,17 @@ begun-out m s at t = sym (failed _ _ t)
 pub to-the-end : (s : List ℕ) (at : ℕ) → take (length s - at) (drop at s) ≡ drop at s
 to-the-end s at = take-all (length s - at) (drop at s) (omega (arith, length-drop at s))
 
-module _ (s : List ℕ) (at n : ℕ) (e : n ≡ toZero (take (length s - at) (drop at s))) where
-  from-here : n ≡ toZero (drop at s)
-  from-here = e ∙ ap toZero (to-the-end s at)
-
-  pub counted-in : at + n < length s → read n (at + (n + 1)) ≡ run (string done) s at
+-- a string that ends at the first zero, or has none
+module _ (s : List ℕ) (at end : ℕ) (e : end ≡ at + toZero (drop at s)) where
+  pub counted-in : end < length s → read (end - at) (end + 1) ≡ run (string done) s at
   unfolding run
-  counted-in h = rw from-here (sym (held _ _ (lt-ltb _ _ (rw from-here at h))))
+  counted-in h =
+      let n : end - at ≡ toZero (drop at s) = omega arith in
+      let k : end + 1 ≡ at + (toZero (drop at s) + 1) = omega arith in
+      rw (n, k) (sym (held _ _ (lt-ltb _ _ (rw e at h))))
 
-  pub counted-out : length s ≤ at + n → _≡_ {A = Outcome ℕ} (fault (Cut at)) (run (string done) s at)
-  counted-out h = sym (string-out _ _ _ (rw from-here at h))
+  pub counted-out : length s ≤ end → _≡_ {A = Outcome ℕ} (fault (Cut at)) (run (string done) s at)
+  counted-out h = sym (string-out _ _ _ (rw e at h))
 
 pub counted-past : (s : List ℕ) (at : ℕ) → length s ≤ at → _≡_ {A = Outcome ℕ} (fault (Cut at)) (run (string done) s at)
 counted-past s at h = sym (string-out _ _ _ (omega arith))
@@ -140,3 +142,8 @@ module _ (e : Endianness) (s : List ℕ) (at n w : ℕ) (same : n ≡ w) where
 
   pub numbered-out : length s < at + n → fault (Cut at) ≡ run (number e w done) s at
   numbered-out h = sym (bytes-out _ _ _ _ (rw same at h))
+
+-- a number that stands at a place
+pub number-there : (e : Endianness) (w : ℕ) (s : List ℕ) (at next : ℕ) → next ≡ at + w → next ≤ length s → read (numberAt e w s at) next ≡ run (number e w done) s at
+unfolding run
+number-there e w s at next q h = rw q (sym (held _ _ (le-leb _ _ (rw q at h))))

@@ -1,5 +1,5 @@
 -- Laws of primitive values, over the width and the kind.
-use Prim.Native.Nat.{ℕ, _*_, _%_, _^_, _≤_, _<_}
+use Prim.Native.Nat.{ℕ, _+_, _*_, _-_, _%_, _^_, _≤_, _<_}
 use mathlib.Core.Bool.{Bool, true, false, not}
 use mathlib.Core.List.{List, [], _∷_}
 use mathlib.Core.Path.{_≡_, refl, _∙_, sym, ap}
@@ -8,8 +8,10 @@ use borrow.Author.Tests.{lt-ltb, le-ltb, ltb-false}
 use lib.Dec.{T, ltb}
 use lib.Ieee.{Float, Format, ofBits, toBits, nanBits, isNan, ones, hid, top}
 use lib.Ieee.Bits.{nanBits-above, nanBits-is, toBits-ofBits}
-use lib.ListN.{length, take}
+use lib.ListN.{length, take, drop, length-take, length-drop}
+use lib.Seq.{take-take}
 use Rattle.primitive.specs.declared.Endianness.{Endianness}
+use Rattle.primitive.specs.Helpers.{numberAt}
 use Rattle.primitive.specs.Number.{spelled}
 use Rattle.primitive.specs.Paper.{Paper}
 use Rattle.primitive.specs.Paper.Paper.{accepts, real, refuses}
@@ -52,6 +54,23 @@ module _ (width : ℕ) (kind : ℕ → Paper) (e : Endianness) (s : List ℕ) wh
           let g : unsigned n ≡ unsigned (spelled e (take width s)) = h ∙ failed _ _ t in
           let q : n ≡ spelled e (take width s) = cc in
           ap kind q ∙ sym (failed _ _ t)
+
+-- a value of a slice that is as long as it
+module _ (w : ℕ) (e : Endianness) (s : List ℕ) (at : ℕ) (h : at + w ≤ length s) where
+  value-there : valueOf w unsigned e (take (at + w - at) (drop at s)) ≡ unsigned (numberAt e w s at)
+  value-there =
+      sym (long-enough w unsigned e (take (at + w - at) (drop at s)) (omega (arith, length-take (at + w - at) (drop at s), length-drop at s)) _ (ap (spelled e) (sym (take-take w (at + w - at) (drop at s) (omega arith)))))
+
+  pub value-is : (n : ℕ) → unsigned n ≡ valueOf w unsigned e (take (at + w - at) (drop at s)) → n ≡ numberAt e w s at
+  value-is n g =
+      let k : unsigned n ≡ unsigned (numberAt e w s at) = g ∙ value-there in
+      cc
+
+  pub value-lacks : {A : Type 0} → refuses 12 [] ≡ valueOf w unsigned e (take (at + w - at) (drop at s)) → A
+  value-lacks g =
+      let k : refuses 12 [] ≡ unsigned (numberAt e w s at) = g ∙ value-there in
+      let z : _≡_ {A = ℕ} 0 1 = cc in
+      absurd (omega arith)
 
 -- Floats: which patterns are a NaN's, how each is told, and that the others come back from the float, bit for bit.
 module _ (f : Format) (n : ℕ) where

@@ -1,11 +1,17 @@
 -- What helpers of the code ensure. No rule uses it.
 use Prim.Native.Nat.{ℕ, zero, suc, _+_, _≤_}
 use mathlib.Core.List.{List, [], _∷_}
-use lib.ListN.{set}
+use lib.ListN.{take, drop, set}
+use Rattle.primitive.specs.declared.Endianness.{Endianness}
 use Rattle.primitive.specs.declared.Fault.{Fault}
 use Rattle.primitive.specs.declared.Fault.the-variants.{Cut, Mark, Refusal}
+use Rattle.primitive.specs.Number.{spelled}
 use Rattle.primitive.specs.Reader.{Reader, Outcome, run}
 use Rattle.primitive.specs.Reader.Outcome.{read, fault}
+
+-- the number of w bytes that stands at a place
+abbrev pub numberAt : Endianness → ℕ → List ℕ → ℕ → ℕ
+numberAt e w s at = spelled e (take w (drop at s))
 
 -- a fault whose place is among n bytes, or just after them
 abbrev pub Placed : ℕ → Fault → Type 0

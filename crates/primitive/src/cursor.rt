@@ -88,8 +88,9 @@ pub fn stands_at(s: &[u8], at: usize, m: &[u8]) -> bool
     }
 }
 
-// How many bytes stand before the first that is c, where it is not among the first of them, up to from.
-fn before_from(s: &[u8], c: u8, from: usize) -> usize
+// Where the first byte stands that is c, from a place on; the end of s where there is none. The first goes byte by byte, the second eight bytes a turn, as
+// long as there are eight.
+fn place_by_bytes(s: &[u8], c: u8, from: usize) -> usize
     requires { ⌜ from ≤ length (now s) ⌝ }
     ensures { λ r. ⌜ r ≡ from + rules.before c (drop from (now (s .entry))) ⌝ }
 {
@@ -103,12 +104,12 @@ fn before_from(s: &[u8], c: u8, from: usize) -> usize
     i
 }
 
-// How many bytes stand before the first that is c; all of them where there is none. Four bytes a turn, as long as there are four.
-pub fn before(s: &[u8], c: u8) -> usize
-    ensures { λ r. ⌜ r ≡ rules.before c (now (s .entry)) ⌝ }
+fn place_from(s: &[u8], c: u8, from: usize) -> usize
+    requires { ⌜ from ≤ length (now s) ⌝ }
+    ensures { λ r. ⌜ r ≡ from + rules.before c (drop from (now (s .entry))) ⌝ }
 {
-    let mut i = 0;
-    while i + 3 < s.len() {
+    let mut i = from;
+    while i + 7 < s.len() {
         if s[i] == c {
             return i;
         }
@@ -121,9 +122,28 @@ pub fn before(s: &[u8], c: u8) -> usize
         if s[i + 3] == c {
             return i + 3;
         }
-        i += 4;
+        if s[i + 4] == c {
+            return i + 4;
+        }
+        if s[i + 5] == c {
+            return i + 5;
+        }
+        if s[i + 6] == c {
+            return i + 6;
+        }
+        if s[i + 7] == c {
+            return i + 7;
+        }
+        i += 8;
     }
-    before_from(s, c, i)
+    place_by_bytes(s, c, i)
+}
+
+// How many bytes stand before the first that is c; all of them where there is none.
+pub fn before(s: &[u8], c: u8) -> usize
+    ensures { λ r. ⌜ r ≡ rules.before c (now (s .entry)) ⌝ }
+{
+    place_from(s, c, 0)
 }
 
 impl Cursor {
@@ -221,9 +241,9 @@ impl Cursor {
         if s.len() <= at {
             return Counted::Stopped(Fault::Cut(at));
         }
-        let n = before(&s[at..], 0);
-        if n < s.len() - at {
-            Counted::Is(n, Cursor { at: at + (n + 1) })
+        let end = place_from(s, 0, at);
+        if end < s.len() {
+            Counted::Is(end - at, Cursor { at: end + 1 })
         } else {
             Counted::Stopped(Fault::Cut(at))
         }

@@ -4,7 +4,7 @@ use mathlib.Core.Path.{_∙_, sym, ap}
 use native.Mathlib.Omega.{arith}
 use denote.Ref.{now}
 use Rattle.primitive.specs.PointerSize.{pointerBytes}
-use Rattle.blend.specs.Helpers.{numberAt}
+use Rattle.primitive.specs.Helpers.{numberAt}
 use Rattle.blend.proofs.There.{length-parts, address-of}
 use borrow.Author.Needs.{needs}
 use Rattle.blend.proofs.blend.address_there.Statement.{statement}

@@ -4,7 +4,8 @@ use mathlib.Core.Path.{_∙_, ap}
 use native.Mathlib.Omega.{arith}
 use denote.Ref.{now}
 use Rattle.primitive.specs.declared.Endianness.the-variants.{Little}
-use Rattle.blend.specs.Helpers.{otherWidth, numberAt}
+use Rattle.primitive.specs.Helpers.{numberAt}
+use Rattle.blend.specs.Helpers.{otherWidth}
 use Rattle.blend.proofs.There.{length-parts}
 use borrow.Author.Needs.{needs}
 use Rattle.blend.proofs.blend.count_there.Statement.{statement}

@@ -3,7 +3,8 @@ use Prim.Native.Nat.{ℕ}
 use mathlib.Core.Path.{_∙_, ap}
 use native.Mathlib.Omega.{arith}
 use denote.Ref.{now}
-use Rattle.blend.specs.Helpers.{otherWidth, numberAt}
+use Rattle.primitive.specs.Helpers.{numberAt}
+use Rattle.blend.specs.Helpers.{otherWidth}
 use Rattle.blend.proofs.There.{length-parts}
 use borrow.Author.Needs.{needs}
 use Rattle.blend.proofs.blend.index_there.Statement.{statement}

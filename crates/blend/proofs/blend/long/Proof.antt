@@ -2,7 +2,7 @@
 use mathlib.Core.Path.{sym, _∙_, ap}
 use denote.Ref.{now}
 use Rattle.primitive.specs.Primitive.{paperU64}
-use Rattle.blend.proofs.There.{value-is, value-lacks}
+use Rattle.primitive.proofs.Values.{value-is, value-lacks}
 use borrow.Author.Needs.{needs}
 use Rattle.blend.proofs.blend.long.Statement.{statement}
 use Rattle.blend.proofs.blend.long.Tie as tie

@@ -30,7 +30,9 @@ add-fill-struct-fields : tie.Need-add-fill-struct-fields Inv-loop μ-loop
 add-fill-struct-fields c = omega (arith, (rw (c .before .before .count .given .1) at (c .before .before .before .before .one-struct .ensures)) .1, c .before .known-told .given)
 
 fill-struct-fields-requires : tie.Need-fill-struct-fields-requires Inv-loop μ-loop
-fill-struct-fields-requires c κs = row-fits _ _ _ _ _ (pairs (leading (c .before .before .before .count .given .0 .1 .0) (field (c .before .before .before .before .before .before .before .before .before .before .args .e)) (now (c .before .before .before .before .before .before .before .before .before .before .args .s)) (c .before .before .before .before .before .before .before .loop .here .at + 4))) (fieldRows (leading (c .before .before .before .before .before .before .before .loop .left - 1) (struct (c .before .before .before .before .before .before .before .before .before .before .args .e)) (now (c .before .before .before .before .before .before .before .before .before .before .args .s)) (c .before .before .before .count .given .0 .1 .1 .0 .at))) _ (c .before .before .before .before .before .before .before .loop .inv) (fields-more (c .before .before .before .before .before .before .before .before .before .before .args .e) (now (c .before .before .before .before .before .before .before .before .before .before .args .s)) _ _ (c .before .before .before .before .before .before .loop-test .taken) _ _ _ ((rw (c .before .before .before .count .given .1) at (c .before .before .before .before .before .one-struct .ensures)) .0))
+fill-struct-fields-requires c κs =
+    let w = rw (c .before .before .before .count .given .1) at (c .before .before .before .before .before .one-struct .ensures) in
+    (row-fits _ _ _ _ _ (pairs (leading (c .before .before .before .count .given .0 .1 .0) (field (c .before .before .before .before .before .before .before .before .before .before .args .e)) (now (c .before .before .before .before .before .before .before .before .before .before .args .s)) (c .before .before .before .before .before .before .before .loop .here .at + 4))) (fieldRows (leading (c .before .before .before .before .before .before .before .loop .left - 1) (struct (c .before .before .before .before .before .before .before .before .before .before .args .e)) (now (c .before .before .before .before .before .before .before .before .before .before .args .s)) (c .before .before .before .count .given .0 .1 .1 .0 .at))) _ (c .before .before .before .before .before .before .before .loop .inv) (fields-more (c .before .before .before .before .before .before .before .before .before .before .args .e) (now (c .before .before .before .before .before .before .before .before .before .before .args .s)) _ _ (c .before .before .before .before .before .before .loop-test .taken) _ _ _ ((rw (c .before .before .before .count .given .1) at (c .before .before .before .before .before .one-struct .ensures)) .0)), omega (arith, w .1, w .2))
 
 sub-left : tie.Need-sub-left Inv-loop μ-loop
 sub-left c = omega arith

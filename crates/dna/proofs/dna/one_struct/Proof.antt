@@ -3,7 +3,8 @@ use mathlib.Core.Path.{sym, _∙_, ap}
 use borrow.Author.Needs.{needs}
 use denote.Ref.{now}
 use Rattle.primitive.specs.Cursor.{moved, numbered}
-use Rattle.dna.proofs.Counting.{struct-stops, struct-stops-later, struct-stops-fields, struct-headed, struct-room}
+use Rattle.dna.proofs.Counting.{struct-stops, struct-stops-later, struct-stops-fields, struct-headed}
+use Rattle.dna.proofs.Shorts.{struct-ends, struct-within}
 use Rattle.dna.proofs.dna.one_struct.Statement.{statement}
 use Rattle.dna.proofs.dna.one_struct.Tie as tie
 
@@ -44,7 +45,7 @@ returns-3 : tie.Need-returns-3
 returns-3 c = struct-stops-fields (c .before .before .before .before .before .before .before .before .before .before .before .before .before .args .e) (now (c .before .before .before .before .before .before .before .before .before .before .before .before .before .args .s)) (c .before .before .before .before .before .before .before .before .before .before .before .before .before .args .c .at) _ _ (ap numbered (sym (c .before .before .before .before .before .before .before .before .before .kind .given .1)) ∙ c .before .before .before .before .before .before .before .before .before .before .before .number .ensures) _ _ (ap numbered (sym (c .before .before .before .before .before .n .given .1)) ∙ c .before .before .before .before .before .before .before .number2 .ensures) _ (ap moved (sym (c .before .f3 .given .1)) ∙ c .before .before .before .fields-past .ensures (c .before .before .before .before .before .before .before .before .before .before .before .before .before .args .e))
 
 returns-4 : tie.Need-returns-4
-returns-4 c = (struct-headed (c .before .before .before .before .before .before .before .before .before .before .before .before .before .args .e) (now (c .before .before .before .before .before .before .before .before .before .before .before .before .before .args .s)) (c .before .before .before .before .before .before .before .before .before .before .before .before .before .args .c .at) _ _ _ _ _ (ap numbered (sym (c .before .before .before .before .before .before .before .before .before .kind .given .1)) ∙ c .before .before .before .before .before .before .before .before .before .before .before .number .ensures) (ap numbered (sym (c .before .before .before .before .before .n .given .1)) ∙ c .before .before .before .before .before .before .before .number2 .ensures) (ap moved (sym (c .before .last .given .1)) ∙ c .before .before .before .fields-past .ensures (c .before .before .before .before .before .before .before .before .before .before .before .before .before .args .e)), struct-room (c .before .before .before .before .before .before .before .before .before .before .before .before .before .args .e) (now (c .before .before .before .before .before .before .before .before .before .before .before .before .before .args .s)) (c .before .before .before .before .before .before .before .before .before .before .before .before .before .args .c .at) _ _ _ _ _ (ap numbered (sym (c .before .before .before .before .before .before .before .before .before .kind .given .1)) ∙ c .before .before .before .before .before .before .before .before .before .before .before .number .ensures) (ap numbered (sym (c .before .before .before .before .before .n .given .1)) ∙ c .before .before .before .before .before .before .before .number2 .ensures) (ap moved (sym (c .before .last .given .1)) ∙ c .before .before .before .fields-past .ensures (c .before .before .before .before .before .before .before .before .before .before .before .before .before .args .e)))
+returns-4 c = (struct-headed (c .before .before .before .before .before .before .before .before .before .before .before .before .before .args .e) (now (c .before .before .before .before .before .before .before .before .before .before .before .before .before .args .s)) (c .before .before .before .before .before .before .before .before .before .before .before .before .before .args .c .at) _ _ _ _ _ (ap numbered (sym (c .before .before .before .before .before .before .before .before .before .kind .given .1)) ∙ c .before .before .before .before .before .before .before .before .before .before .before .number .ensures) (ap numbered (sym (c .before .before .before .before .before .n .given .1)) ∙ c .before .before .before .before .before .before .before .number2 .ensures) (ap moved (sym (c .before .last .given .1)) ∙ c .before .before .before .fields-past .ensures (c .before .before .before .before .before .before .before .before .before .before .before .before .before .args .e)), struct-ends (c .before .before .before .before .before .before .before .before .before .before .before .before .before .args .e) (now (c .before .before .before .before .before .before .before .before .before .before .before .before .before .args .s)) (c .before .before .before .before .before .before .before .before .before .before .before .before .before .args .c .at) _ _ _ _ _ (ap numbered (sym (c .before .before .before .before .before .before .before .before .before .kind .given .1)) ∙ c .before .before .before .before .before .before .before .before .before .before .before .number .ensures) (ap numbered (sym (c .before .before .before .before .before .n .given .1)) ∙ c .before .before .before .before .before .before .before .number2 .ensures) (ap moved (sym (c .before .last .given .1)) ∙ c .before .before .before .fields-past .ensures (c .before .before .before .before .before .before .before .before .before .before .before .before .before .args .e)), struct-within (c .before .before .before .before .before .before .before .before .before .before .before .before .before .args .e) (now (c .before .before .before .before .before .before .before .before .before .before .before .before .before .args .s)) (c .before .before .before .before .before .before .before .before .before .before .before .before .before .args .c .at) _ _ _ _ _ (ap numbered (sym (c .before .before .before .before .before .before .before .before .before .kind .given .1)) ∙ c .before .before .before .before .before .before .before .before .before .before .before .number .ensures) (ap numbered (sym (c .before .before .before .before .before .n .given .1)) ∙ c .before .before .before .before .before .before .before .number2 .ensures) (ap moved (sym (c .before .last .given .1)) ∙ c .before .before .before .fields-past .ensures (c .before .before .before .before .before .before .before .before .before .before .before .before .before .args .e)))
 
 pub one-struct-spec : {M : Type 1} → statement M
 one-struct-spec =

@@ -1,5 +1,4 @@
 -- `string` goes past a zero-ended string.
-use native.Mathlib.Omega.{arith}
 use denote.Ref.{now}
 use Rattle.primitive.proofs.Reading.{counted-in, counted-out, counted-past}
 use borrow.Author.Needs.{needs}
@@ -9,48 +8,24 @@ use Rattle.primitive.proofs.cursor.Cursor.string.Tie as tie
 returns : tie.Need-returns
 returns c = counted-past (now (c .before .before .args .s)) _ (c .if1 .taken)
 
-sub-before : tie.Need-sub-before
-sub-before c = search needs
+place-from-requires : tie.Need-place-from-requires
+place-from-requires c κs = search needs
 
-part-before-start : tie.Need-part-before-start
-part-before-start c = search needs
+sub-t9 : tie.Need-sub-t9
+sub-t9 c = search needs
 
-part-before-end : tie.Need-part-before-end
-part-before-end c = search needs
-
-before-requires : tie.Need-before-requires
-before-requires c κs = search needs
-
-sub-if2 : tie.Need-sub-if2
-sub-if2 c = search needs
-
-add-t13 : tie.Need-add-t13
-add-t13 c = search needs
-
-add-t14 : tie.Need-add-t14
-add-t14 c = search needs
+add-t10 : tie.Need-add-t10
+add-t10 c = search needs
 
 returns-2 : tie.Need-returns-2
 returns-2 c =
-    let a = c .before .before .before .before .before .args in
-    counted-in (now (a .s)) (a .self .at) _ (c .before .before2 .ensures) (omega arith)
+    let a = c .before .before .before .before .args in
+    counted-in (now (a .s)) (a .self .at) _ (c .before .place-from .ensures) (c .if2 .taken)
 
 returns-3 : tie.Need-returns-3
 returns-3 c =
-    let a = c .before .before .before .before .before .args in
-    counted-out (now (a .s)) (a .self .at) _ (c .before .before2 .ensures) (omega arith)
+    let a = c .before .before .before .before .args in
+    counted-out (now (a .s)) (a .self .at) _ (c .before .place-from .ensures) (c .if2 .left)
 
 pub string-spec : {M : Type 1} → statement M
-string-spec =
-    tie.close
-    (tie.spec
-    returns
-    sub-before
-    part-before-start
-    part-before-end
-    before-requires
-    sub-if2
-    add-t13
-    add-t14
-    returns-2
-    returns-3)
+string-spec = tie.close (tie.spec returns place-from-requires sub-t9 add-t10 returns-2 returns-3)

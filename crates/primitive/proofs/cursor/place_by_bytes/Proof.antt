@@ -1,4 +1,4 @@
--- `before_from` counts on from a place. The invariant: there was none so far, so the count goes on from here.
+-- `place_by_bytes` counts on from a place. The invariant: there was none so far, so the count goes on from here.
 use Prim.Native.Nat.{_+_, _-_, _≤_}
 use mathlib.Core.Path.{_≡_, refl}
 use native.Mathlib.Omega.{arith}
@@ -7,8 +7,8 @@ use denote.Ref.{now}
 use lib.ListN.{length, drop}
 use Rattle.primitive.specs.Reader as rules
 use Rattle.primitive.proofs.Marks.{found-here, found-later, found-never}
-use Rattle.primitive.proofs.cursor.before_from.Statement.{statement}
-use Rattle.primitive.proofs.cursor.before_from.Tie as tie
+use Rattle.primitive.proofs.cursor.place_by_bytes.Statement.{statement}
+use Rattle.primitive.proofs.cursor.place_by_bytes.Tie as tie
 
 abbrev Inv-loop : tie.InvT-loop
 Inv-loop s c from i₀ i = (i ≤ length s) × (from + rules.before c (drop from s) ≡ i + rules.before c (drop i s))
@@ -46,8 +46,8 @@ returns-2 c =
     let l = c .before .loop in
     omega (arith, found-never (c .before .before .args .c) s (l .i) (c .loop-test .left), l .inv .1)
 
-pub before-from-spec : {M : Type 1} → statement M
-before-from-spec =
+pub place-by-bytes-spec : {M : Type 1} → statement M
+place-by-bytes-spec =
     tie.close
     (tie.spec
     Inv-loop
