@@ -1,0 +1,651 @@
+/* blendscan: what a .blend file has in it.
+ *
+ * All reading is done by the proved library of blend.h. Every number that is printed was answered by one of its calls, stands in a table that a call filled,
+ * or is a sum or difference of such numbers; of the file itself bytes are shown, and none is interpreted here. */
+#include "libc.h"
+
+#include "blend.h"
+
+/* What the program ends with. Of several files the highest counts. */
+enum { ALL_READ, REFUSED, NOT_HAD, BROKEN };
+
+enum mode { LISTING, SUMMARY, CATALOGUE };
+
+/* The refusals of blend.h that ask for a larger table. */
+enum { ROWS_SHORT = 7, DIMENSIONS_SHORT = 11 };
+
+/* How many rows are lent at first, at most. */
+enum { FIRST_ROWS = 1 << 16 };
+
+/* Where the numbers of a row stand in the tables: of a block, of a name or type, of a struct, of a field. */
+enum { CODE, ADDRESS, INDEX, COUNT, HEADER_AT, PAYLOAD_AT, PAYLOAD_LENGTH };
+enum { TEXT_AT, TEXT_LENGTH, TYPE_SIZE };
+enum { STRUCT_TYPE, STRUCT_FIRST, STRUCT_FIELDS };
+enum { FIELD_TYPE, FIELD_NAME };
+
+/* ---- Output */
+
+static char output[1 << 16];
+
+/* All that was printed is written, or the program ends. */
+static void settle(void)
+{
+    if (fflush(stdout) == 0 && !ferror(stdout))
+        return;
+    fprintf(stderr, "blendscan: standard output: cannot be written: %s\n", strerror(errno));
+    exit(BROKEN);
+}
+
+/* printf that ends the program at the first thing that cannot be written. */
+__attribute__((format(printf, 1, 2))) static void print(const char *format, ...)
+{
+    va_list words;
+    int wrote;
+
+    va_start(words, format);
+    wrote = vprintf(format, words);
+    va_end(words);
+    if (wrote < 0)
+        settle();
+}
+
+/* A line on standard error, after what was printed, so that the two stay in order where they are seen together. */
+__attribute__((format(printf, 2, 3))) static void complain(const char *name, const char *format, ...)
+{
+    va_list words;
+
+    settle();
+    fprintf(stderr, "blendscan: %s: ", name);
+    va_start(words, format);
+    vfprintf(stderr, format, words);
+    va_end(words);
+    fprintf(stderr, "\n");
+}
+
+/* ---- Memory */
+
+/* Room for that many elements, with what the old room held. It is never null, since no slice that is lent may be. */
+static void *room_for(void *old, uint64_t count, size_t size)
+{
+    void *room = count < SIZE_MAX / size ? realloc(old, (count + 1) * size) : NULL;
+
+    if (room == NULL) {
+        complain("memory", "it does not suffice");
+        exit(BROKEN);
+    }
+    return room;
+}
+
+static uint64_t *table_for(uint64_t rows, size_t numbers)
+{
+    return room_for(NULL, rows, numbers * sizeof(uint64_t));
+}
+
+/* ---- Files */
+
+struct file {
+    const char *name; /* as it is told to the user */
+    uint8_t *bytes;
+    size_t length;
+    bool mapped;
+};
+
+/* A mapped file that somebody cuts short while it is read ends in a signal. */
+static void lost(int signal)
+{
+    static const char words[] = "blendscan: a file became shorter, or could not be read, while it was scanned\n";
+    ssize_t wrote = write(STDERR_FILENO, words, sizeof words - 1);
+
+    (void)signal;
+    (void)wrote;
+    _exit(NOT_HAD);
+}
+
+/* False for what cannot be mapped: a pipe, a folder, an empty file. */
+static bool map_file(struct file *f, int from)
+{
+    off_t size = lseek(from, 0, SEEK_END);
+    void *at;
+
+    if (size <= 0)
+        return false;
+    at = mmap(NULL, (size_t)size, PROT_READ, MAP_PRIVATE, from, 0);
+    if (at == MAP_FAILED) {
+        lseek(from, 0, SEEK_SET);
+        return false;
+    }
+    f->bytes = at;
+    f->length = (size_t)size;
+    f->mapped = true;
+    return true;
+}
+
+/* Reads to the end, however short the pieces are. */
+static bool read_file(struct file *f, int from)
+{
+    size_t room = 0;
+    ssize_t got;
+
+    do {
+        if (f->length == room) {
+            room = room == 0 ? 1 << 16 : 2 * room;
+            f->bytes = room_for(f->bytes, room, 1);
+        }
+        got = read(from, f->bytes + f->length, room - f->length);
+        if (got > 0)
+            f->length += (size_t)got;
+    } while (got > 0 || (got < 0 && errno == EINTR));
+    return got == 0;
+}
+
+static void drop_file(struct file *f)
+{
+    if (f->mapped)
+        munmap(f->bytes, f->length);
+    else
+        free(f->bytes);
+}
+
+/* The file's bytes, mapped where that is possible. False, and the reason is told, where they cannot be had. */
+static bool take_file(struct file *f, const char *name)
+{
+    bool standard = strcmp(name, "-") == 0;
+    int from = standard ? STDIN_FILENO : open(name, O_RDONLY);
+    bool had = false;
+
+    *f = (struct file){.name = standard ? "standard input" : name};
+    if (from >= 0)
+        had = (!standard && map_file(f, from)) || read_file(f, from);
+    if (!had) {
+        complain(f->name, "cannot be read: %s", strerror(errno));
+        drop_file(f);
+    }
+    if (!standard && from >= 0)
+        close(from);
+    return had;
+}
+
+/* ---- Reading */
+
+struct scene {
+    struct file file;
+    struct blend_read read;
+    uint64_t *rows;
+    size_t numbers; /* the length of rows */
+};
+
+static void read_into(struct scene *s, uint64_t rows)
+{
+    s->rows = table_for(rows, BLEND_ROW);
+    s->numbers = rows * BLEND_ROW;
+    s->read = blend_read(s->file.bytes, s->file.length, s->rows, s->numbers);
+}
+
+/* The first call is lent as many rows as the file can have, but no more than FIRST_ROWS; where it has more, they are told, and the second call is lent them. */
+static void read_scene(struct scene *s)
+{
+    uint64_t most = s->file.length / BLEND_BLOCK_LEAST;
+
+    read_into(s, most < FIRST_ROWS ? most : FIRST_ROWS);
+    if (s->read.refusal != ROWS_SHORT)
+        return;
+    free(s->rows);
+    read_into(s, s->read.needed);
+}
+
+static const char *edition_of(const struct scene *s)
+{
+    return s->read.edition == 0 ? "legacy" : "new";
+}
+
+static const char *order_of(const struct scene *s)
+{
+    return s->read.order == 0 ? "little" : "big";
+}
+
+static const char *refusal_words(uint64_t refusal)
+{
+    switch (refusal) {
+    case 1: return "it does not begin with \"BLENDER\": it is compressed, or no .blend file";
+    case 2: return "malformed: it is cut short, or a mark in it is wrong";
+    case 3: return "a block's address is 0";
+    case 4: return "a principal block's count is not 1";
+    case 5: return "a block's code is none of those that are known";
+    case 6: return "the last block is not DNA1, or there is no block";
+    case 7: return "the row table is too short";
+    case 9: return "a dimension is no number of at most 2^64-1";
+    case 10: return "a product is over 2^64-1";
+    default: return "for a reason that is not known here";
+    }
+}
+
+static int tell_refusal(const struct scene *s)
+{
+    uint64_t refusal = s->read.refusal;
+
+    print("refused %lu", refusal);
+    if (refusal == ROWS_SHORT)
+        print(" %lu", s->read.needed);
+    print("\n");
+    complain(s->file.name, "refused %lu: %s", refusal, s->file.length == 0 ? "it is empty" : refusal_words(refusal));
+    return REFUSED;
+}
+
+/* ---- The listing */
+
+static int list(const struct scene *s)
+{
+    const struct blend_read *r = &s->read;
+
+    print("blend %s %lu %s %lu %lu\n", edition_of(s), 8 * r->pointer_bytes, order_of(s), r->major, r->minor);
+    for (uint64_t i = 0; i < r->rows; i++) {
+        const uint64_t *row = s->rows + BLEND_ROW * i;
+
+        print("block %lu %08lx %lu %lu %lu %lu %lu %lu\n", i, row[CODE], row[ADDRESS], row[INDEX], row[COUNT], row[HEADER_AT], row[PAYLOAD_AT],
+              row[PAYLOAD_LENGTH]);
+    }
+    print("dna %lu %lu %lu %lu\n", r->names, r->types, r->structs, r->fields);
+    print("end %lu\n", r->end);
+    return ALL_READ;
+}
+
+/* ---- The summary */
+
+/* Blocks, and the bytes of their block headers and of their payloads. */
+struct part {
+    uint64_t blocks, headers, payloads;
+};
+
+/* Whether the first block begins where the header ends and each other one where the one before it ends, and the end mark ends after the last one and in the
+ * file. Then no byte is counted twice or left out. Where the last block ends goes into `last`. */
+static bool in_order(const struct scene *s, uint64_t header, uint64_t *last)
+{
+    uint64_t at = header;
+
+    for (const uint64_t *row = s->rows; row < s->rows + BLEND_ROW * s->read.rows; row += BLEND_ROW) {
+        if (row[HEADER_AT] != at || row[PAYLOAD_AT] < at || row[PAYLOAD_AT] > s->file.length)
+            return false;
+        if (row[PAYLOAD_LENGTH] > s->file.length - row[PAYLOAD_AT])
+            return false;
+        at = row[PAYLOAD_AT] + row[PAYLOAD_LENGTH];
+    }
+    *last = at;
+    return at <= s->read.end && s->read.end <= s->file.length;
+}
+
+static int by_code(const void *one, const void *other)
+{
+    uint64_t a = ((const uint64_t *)one)[CODE], b = ((const uint64_t *)other)[CODE];
+
+    return (a > b) - (a < b);
+}
+
+/* A code as a number and, where all of it shows, as text. The zeros at the end of a principal block's code are no part of the text. */
+static void put_code(uint64_t code)
+{
+    char text[5] = {(char)(code >> 24), (char)(code >> 16), (char)(code >> 8), (char)code, 0};
+    size_t length = 4;
+    bool shows = true;
+
+    while (length > 0 && text[length - 1] == 0)
+        length--;
+    for (size_t i = 0; i < length; i++)
+        shows = shows && text[i] > ' ' && text[i] < 0x7f;
+    print("%08lx %-11s", code, shows ? text : "");
+}
+
+static void put_part(const struct part *p)
+{
+    print("%10lu%15lu%20lu%20lu\n", p->blocks, p->headers, p->payloads, p->headers + p->payloads);
+}
+
+static void put_bytes(const char *what, uint64_t bytes)
+{
+    print("%-20s%65lu\n", what, bytes);
+}
+
+/* A line for each code, and what they add up to. The rows are put into the order of their codes, and not back. */
+static struct part put_blocks(struct scene *s)
+{
+    struct part all = {0, 0, 0};
+    const uint64_t *row = s->rows, *end = s->rows + BLEND_ROW * s->read.rows;
+
+    qsort(s->rows, s->read.rows, BLEND_ROW * sizeof *s->rows, by_code);
+    while (row < end) {
+        struct part same = {0, 0, 0};
+        uint64_t code = row[CODE];
+
+        for (; row < end && row[CODE] == code; row += BLEND_ROW) {
+            same.blocks++;
+            same.headers += row[PAYLOAD_AT] - row[HEADER_AT];
+            same.payloads += row[PAYLOAD_LENGTH];
+        }
+        put_code(code);
+        put_part(&same);
+        all.blocks += same.blocks;
+        all.headers += same.headers;
+        all.payloads += same.payloads;
+    }
+    return all;
+}
+
+static int summarise(struct scene *s)
+{
+    const struct blend_read *r = &s->read;
+    uint64_t header = blend_header(s->file.bytes, s->file.length).length, last, mark, after, total;
+    struct part blocks;
+
+    if (!in_order(s, header, &last)) {
+        complain(s->file.name, "not every byte is accounted for: its parts do not lie one after another");
+        return BROKEN;
+    }
+    mark = r->end - last;
+    after = s->file.length - r->end;
+    print("%s: %s edition, %lu-bit pointers, %s-endian, version %lu.%lu\n\n", s->file.name, edition_of(s), 8 * r->pointer_bytes, order_of(s), r->major,
+          r->minor);
+    print("%-20s%10s%15s%20s%20s\n", "", "blocks", "block headers", "payloads", "bytes");
+    put_bytes("header", header);
+    blocks = put_blocks(s);
+    print("%-20s", "all blocks");
+    put_part(&blocks);
+    put_bytes("end mark", mark);
+    put_bytes("after the end mark", after);
+    total = header + blocks.headers + blocks.payloads + mark + after;
+    put_bytes("total", total);
+    if (total != s->file.length) {
+        complain(s->file.name, "not every byte is accounted for: its parts add up to %lu, and its size is %zu", total, s->file.length);
+        return BROKEN;
+    }
+    print("\nEvery byte is accounted for: the parts lie one after another and add up to the size of the file, %lu bytes.\n", total);
+    return ALL_READ;
+}
+
+/* ---- The catalogue */
+
+struct catalogue {
+    const uint8_t *payload;
+    struct blend_catalogue counts;
+    uint64_t *names, *types, *structs, *fields;
+    uint64_t *dimensions; /* lent to blend_field, and made as long as a name needs it */
+    size_t dimensions_length;
+    uint64_t pointer_bytes;
+};
+
+/* What the fields of a struct take together. From a field on whose width cannot be told the bytes are not known. */
+struct extent {
+    uint64_t bytes;
+    bool known, marked;
+};
+
+/* The catalogue of the last row. False where the library does not give it, though it counted it when the file was read. */
+static bool read_catalogue(struct catalogue *c, const struct scene *s)
+{
+    const struct blend_read *r = &s->read;
+    struct blend_view view = blend_view(s->file.bytes, s->file.length, s->rows, s->numbers, r->rows - 1);
+
+    *c = (struct catalogue){.payload = s->file.bytes + view.at, .pointer_bytes = r->pointer_bytes};
+    c->names = table_for(r->names, BLEND_NAME);
+    c->types = table_for(r->types, BLEND_TYPE);
+    c->structs = table_for(r->structs, BLEND_STRUCT);
+    c->fields = table_for(r->fields, BLEND_FIELD);
+    c->dimensions = table_for(0, 1);
+    c->counts = blend_catalogue(c->payload, view.length, r->order, c->names, r->names * BLEND_NAME, c->types, r->types * BLEND_TYPE, c->structs,
+                                r->structs * BLEND_STRUCT, c->fields, r->fields * BLEND_FIELD);
+    return view.refusal == 0 && c->counts.refusal == 0;
+}
+
+static void drop_catalogue(struct catalogue *c)
+{
+    free(c->names);
+    free(c->types);
+    free(c->structs);
+    free(c->fields);
+    free(c->dimensions);
+}
+
+/* A type's row, or null where there is none of that number; names likewise. A number of one list is never looked up in the other. */
+static const uint64_t *type_row(const struct catalogue *c, uint64_t number)
+{
+    return number < c->counts.types ? c->types + BLEND_TYPE * number : NULL;
+}
+
+static const uint64_t *name_row(const struct catalogue *c, uint64_t number)
+{
+    return number < c->counts.names ? c->names + BLEND_NAME * number : NULL;
+}
+
+/* After a space, the bytes that a name's or type's row tells of. Those that would not show, or would break the line up otherwise, are written \xHH, and an
+ * empty text is "". Where there is no row the number shows after a question mark. */
+static void put_name(const struct catalogue *c, const uint64_t *row, uint64_t number)
+{
+    const uint8_t *text;
+
+    if (row == NULL) {
+        print(" ?%lu", number);
+        return;
+    }
+    print(row[TEXT_LENGTH] == 0 ? " \"\"" : " ");
+    text = c->payload + row[TEXT_AT];
+    for (uint64_t i = 0; i < row[TEXT_LENGTH]; i++) {
+        if (text[i] > ' ' && text[i] < 0x7f && text[i] != '"' && text[i] != '\\')
+            putchar(text[i]);
+        else
+            print("\\x%02x", text[i]);
+    }
+}
+
+/* After a space, the number, or a dash where it is not known. */
+static void put_known(bool known, uint64_t number)
+{
+    if (known)
+        print(" %lu", number);
+    else
+        print(" -");
+}
+
+/* How wide a field of that type and name is, or the refusal of its name or of its width. */
+static struct blend_value width_of(struct catalogue *c, const uint64_t *type, const uint64_t *name)
+{
+    const uint8_t *text = c->payload + name[TEXT_AT];
+    struct blend_field f = blend_field(text, name[TEXT_LENGTH], c->dimensions, c->dimensions_length);
+
+    if (f.refusal == DIMENSIONS_SHORT) {
+        c->dimensions = room_for(c->dimensions, f.needed, sizeof *c->dimensions);
+        c->dimensions_length = f.needed;
+        f = blend_field(text, name[TEXT_LENGTH], c->dimensions, c->dimensions_length);
+    }
+    if (f.refusal != 0)
+        return (struct blend_value){f.refusal, 0};
+    return blend_width(f.kind, f.length, type[TYPE_SIZE], c->pointer_bytes);
+}
+
+static void put_field(struct catalogue *c, struct extent *e, const uint64_t *field)
+{
+    const uint64_t *type = type_row(c, field[FIELD_TYPE]), *name = name_row(c, field[FIELD_NAME]);
+    bool found = type != NULL && name != NULL;
+    struct blend_value width = found ? width_of(c, type, name) : (struct blend_value){0, 0};
+    bool known = found && width.refusal == 0, fits = width.value <= UINT64_MAX - e->bytes;
+
+    print("field");
+    put_known(e->known, e->bytes);
+    put_known(known, width.value);
+    put_name(c, type, field[FIELD_TYPE]);
+    put_name(c, name, field[FIELD_NAME]);
+    print("\n");
+    if (type == NULL)
+        print("marked: the type of this field is past the list of types\n");
+    if (name == NULL)
+        print("marked: the name of this field is past the list of names\n");
+    if (width.refusal != 0)
+        print("marked: this field is refused %lu: %s\n", width.refusal, refusal_words(width.refusal));
+    if (e->known && known && !fits)
+        print("marked: this field ends past 2^64-1\n");
+    e->marked = e->marked || !known || (e->known && !fits);
+    e->known = e->known && known && fits;
+    e->bytes += width.value;
+}
+
+/* Whether the struct is marked. */
+static bool put_struct(struct catalogue *c, uint64_t number)
+{
+    const uint64_t *row = c->structs + BLEND_STRUCT * number, *type = type_row(c, row[STRUCT_TYPE]);
+    struct extent e = {0, true, type == NULL};
+
+    print("struct %lu", number);
+    put_known(type != NULL, type != NULL ? type[TYPE_SIZE] : 0);
+    put_name(c, type, row[STRUCT_TYPE]);
+    print("\n");
+    if (type == NULL)
+        print("marked: the type of this struct is past the list of types\n");
+    for (uint64_t i = 0; i < row[STRUCT_FIELDS]; i++)
+        put_field(c, &e, c->fields + BLEND_FIELD * (row[STRUCT_FIRST] + i));
+    if (type != NULL && e.known && e.bytes != type[TYPE_SIZE]) {
+        print("marked: the fields of this struct take %lu bytes, which is not its size\n", e.bytes);
+        e.marked = true;
+    }
+    return e.marked;
+}
+
+static int catalogue(const struct scene *s)
+{
+    struct catalogue c;
+    uint64_t marked = 0;
+
+    if (!read_catalogue(&c, s)) {
+        complain(s->file.name, "its catalogue was counted, and then could not be read");
+        drop_catalogue(&c);
+        return BROKEN;
+    }
+    print("types %lu\n", c.counts.types);
+    for (uint64_t i = 0; i < c.counts.types; i++) {
+        print("type %lu %lu", i, type_row(&c, i)[TYPE_SIZE]);
+        put_name(&c, type_row(&c, i), i);
+        print("\n");
+    }
+    print("structs %lu\n", c.counts.structs);
+    for (uint64_t i = 0; i < c.counts.structs; i++)
+        marked += put_struct(&c, i);
+    print("marked %lu\n", marked);
+    drop_catalogue(&c);
+    return ALL_READ;
+}
+
+/* ---- The command line */
+
+static const char help[] =
+    "usage: blendscan [--summary | --catalogue] [FILE ...]\n"
+    "\n"
+    "Shows what .blend files have in them. Without a FILE, or where it is -, standard\n"
+    "input is read.\n"
+    "\n"
+    "  (no option)   a line for the header: edition, bits of a pointer, byte order,\n"
+    "                version; one for each block: number, code, address, index, count,\n"
+    "                offset of the block header, offset and length of the payload; one\n"
+    "                for the catalogue: names, types, structs, fields; and one for the\n"
+    "                offset after the end mark\n"
+    "  --summary     where every byte of the file belongs: the header, the blocks by\n"
+    "                code, the end mark, what follows it\n"
+    "  --catalogue   the types with their number and size, and the structs with their\n"
+    "                number and size and, for each field, its offset, width, type and\n"
+    "                name. A line that begins with `marked:` tells what is wrong with\n"
+    "                what stands above it; the last line counts the structs with one\n"
+    "  --help        this page\n"
+    "  --            what follows are files, whatever they begin with\n"
+    "\n"
+    "A file that is refused gives the line `refused N`, and the reason on standard\n"
+    "error. Where there are several files, a line `file NAME` stands before each.\n"
+    "\n"
+    "Exit status: 0 all files were read; 1 one was refused; 2 wrong usage, or a file\n"
+    "cannot be had; 3 anything else: output that cannot be written, too little memory.\n"
+    "Of several the highest.\n";
+
+static int scan(enum mode mode, const char *name)
+{
+    struct scene s;
+    int status;
+
+    if (!take_file(&s.file, name))
+        return NOT_HAD;
+    read_scene(&s);
+    if (s.read.refusal != 0)
+        status = tell_refusal(&s);
+    else if (mode == SUMMARY)
+        status = summarise(&s);
+    else if (mode == CATALOGUE)
+        status = catalogue(&s);
+    else
+        status = list(&s);
+    free(s.rows);
+    drop_file(&s.file);
+    return status;
+}
+
+static int scan_all(enum mode mode, char **names, int count)
+{
+    int status = ALL_READ;
+
+    if (count == 0)
+        return scan(mode, "-");
+    for (int i = 0; i < count; i++) {
+        int one;
+
+        if (count > 1)
+            print("file %s\n", names[i]);
+        one = scan(mode, names[i]);
+        if (one > status)
+            status = one;
+    }
+    return status;
+}
+
+/* The mode that an option asks for; LISTING where there is no such option. */
+static enum mode mode_of(const char *word)
+{
+    if (strcmp(word, "--summary") == 0)
+        return SUMMARY;
+    return strcmp(word, "--catalogue") == 0 ? CATALOGUE : LISTING;
+}
+
+static bool set_mode(enum mode *mode, const char *word)
+{
+    enum mode asked = mode_of(word);
+
+    if (asked == LISTING) {
+        complain(word, "there is no such option; --help tells which there are");
+        return false;
+    }
+    if (*mode != LISTING && *mode != asked) {
+        complain(word, "it does not go with the option before it; --help tells more");
+        return false;
+    }
+    *mode = asked;
+    return true;
+}
+
+/* Options may stand anywhere; the names are gathered at the start of the list. */
+int main(int argc, char **argv)
+{
+    enum mode mode = LISTING;
+    bool names_only = false;
+    int names = 0, status;
+
+    setvbuf(stdout, output, _IOFBF, sizeof output);
+    signal(SIGPIPE, SIG_IGN);
+    signal(SIGBUS, lost);
+    for (int i = 1; i < argc; i++) {
+        if (names_only || argv[i][0] != '-' || argv[i][1] == 0) {
+            argv[names++] = argv[i];
+        } else if (strcmp(argv[i], "--") == 0) {
+            names_only = true;
+        } else if (strcmp(argv[i], "--help") == 0) {
+            print("%s", help);
+            settle();
+            return ALL_READ;
+        } else if (!set_mode(&mode, argv[i])) {
+            return NOT_HAD;
+        }
+    }
+    status = scan_all(mode, argv, names);
+    settle();
+    return status;
+}
