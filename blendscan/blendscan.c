@@ -1,7 +1,7 @@
 /* blendscan: what a .blend file has in it.
  *
- * All reading is done by the proved library of blend.h. Every number that is printed was answered by one of its calls, stands in a table that a call filled,
- * or is a sum or difference of such numbers; of the file itself bytes are shown, and none is interpreted here. */
+ * All reading is done by the proved library of blend.h. Every number that is printed was answered by one of its calls or stands in a table that a call filled, is made
+ * of such numbers and of the file's length, or counts the lines; of the file itself bytes are shown, and none is interpreted here. */
 #include "libc.h"
 
 #include "blend.h"
@@ -49,13 +49,36 @@ __attribute__((format(printf, 1, 2))) static void print(const char *format, ...)
         settle();
 }
 
+static void put_byte(uint8_t byte)
+{
+    if (putchar(byte) < 0)
+        settle();
+}
+
+/* A file's name with its bytes as they are, but those that would break a line up or steer a terminal, and the backslash, as \xHH. */
+static void put_file_name(FILE *to, const char *name)
+{
+    if (*name == 0)
+        fprintf(to, "\"\"");
+    for (; *name != 0; name++) {
+        unsigned char byte = (unsigned char)*name;
+
+        if (byte < ' ' || byte == 0x7f || byte == '\\')
+            fprintf(to, "\\x%02x", byte);
+        else
+            fputc(byte, to);
+    }
+}
+
 /* A line on standard error, after what was printed, so that the two stay in order where they are seen together. */
 __attribute__((format(printf, 2, 3))) static void complain(const char *name, const char *format, ...)
 {
     va_list words;
 
     settle();
-    fprintf(stderr, "blendscan: %s: ", name);
+    fprintf(stderr, "blendscan: ");
+    put_file_name(stderr, name);
+    fprintf(stderr, ": ");
     va_start(words, format);
     vfprintf(stderr, format, words);
     va_end(words);
@@ -70,7 +93,8 @@ static void *room_for(void *old, uint64_t count, size_t size)
     void *room = count < SIZE_MAX / size ? realloc(old, (count + 1) * size) : NULL;
 
     if (room == NULL) {
-        complain("memory", "it does not suffice");
+        settle();
+        fprintf(stderr, "blendscan: there is not enough memory\n");
         exit(BROKEN);
     }
     return room;
@@ -87,41 +111,71 @@ struct file {
     const char *name; /* as it is told to the user */
     uint8_t *bytes;
     size_t length;
+    int from;
     bool mapped;
+    struct stat taken; /* of a mapped file: how it was */
 };
 
-/* A mapped file that somebody cuts short while it is read ends in a signal. */
+/* The library's answers hold of bytes that nobody changes meanwhile. Where somebody does change a mapped file, a signal may come of it; where none does, `kept` below
+ * finds the change. */
+static char scanned[256]; /* the name of the file, for the handler, which may not do more than write */
+
+static void name_scanned(const char *name)
+{
+    size_t length = 0;
+
+    for (; name[length] != 0 && length < sizeof scanned - 1; length++)
+        scanned[length] = name[length];
+    scanned[length] = 0;
+    for (size_t i = 0; i < length; i++)
+        if ((unsigned char)scanned[i] < ' ' || scanned[i] == 0x7f)
+            scanned[i] = '?';
+}
+
 static void lost(int signal)
 {
-    static const char words[] = "blendscan: a file became shorter, or could not be read, while it was scanned\n";
-    ssize_t wrote = write(STDERR_FILENO, words, sizeof words - 1);
+    static const char first[] = "blendscan: ", last[] = ": it was changed, or could not be read, while it was scanned\n";
+    ssize_t wrote = write(STDERR_FILENO, first, sizeof first - 1);
 
+    wrote += write(STDERR_FILENO, scanned, strlen(scanned));
+    wrote += write(STDERR_FILENO, last, sizeof last - 1);
     (void)signal;
     (void)wrote;
     _exit(NOT_HAD);
 }
 
 /* False for what cannot be mapped: a pipe, a folder, an empty file. */
-static bool map_file(struct file *f, int from)
+static bool map_file(struct file *f)
 {
-    off_t size = lseek(from, 0, SEEK_END);
     void *at;
 
-    if (size <= 0)
+    if (fstat(f->from, &f->taken) != 0 || !S_ISREG(f->taken.st_mode) || f->taken.st_size <= 0)
         return false;
-    at = mmap(NULL, (size_t)size, PROT_READ, MAP_PRIVATE, from, 0);
-    if (at == MAP_FAILED) {
-        lseek(from, 0, SEEK_SET);
+    at = mmap(NULL, (size_t)f->taken.st_size, PROT_READ, MAP_PRIVATE, f->from, 0);
+    if (at == MAP_FAILED)
         return false;
-    }
     f->bytes = at;
-    f->length = (size_t)size;
+    f->length = (size_t)f->taken.st_size;
     f->mapped = true;
     return true;
 }
 
+/* Whether a mapped file is as it was when it was taken, by its size and the time of its last change. */
+static bool kept(const struct file *f)
+{
+    struct stat now;
+
+    if (!f->mapped)
+        return true;
+    if (fstat(f->from, &now) == 0 && now.st_size == f->taken.st_size && now.st_mtim.tv_sec == f->taken.st_mtim.tv_sec
+        && now.st_mtim.tv_nsec == f->taken.st_mtim.tv_nsec)
+        return true;
+    complain(f->name, "it was changed while it was scanned, and nothing that is said of it counts");
+    return false;
+}
+
 /* Reads to the end, however short the pieces are. */
-static bool read_file(struct file *f, int from)
+static bool read_file(struct file *f)
 {
     size_t room = 0;
     ssize_t got;
@@ -131,7 +185,7 @@ static bool read_file(struct file *f, int from)
             room = room == 0 ? 1 << 16 : 2 * room;
             f->bytes = room_for(f->bytes, room, 1);
         }
-        got = read(from, f->bytes + f->length, room - f->length);
+        got = read(f->from, f->bytes + f->length, room - f->length);
         if (got > 0)
             f->length += (size_t)got;
     } while (got > 0 || (got < 0 && errno == EINTR));
@@ -144,24 +198,24 @@ static void drop_file(struct file *f)
         munmap(f->bytes, f->length);
     else
         free(f->bytes);
+    if (f->from > STDIN_FILENO)
+        close(f->from);
 }
 
 /* The file's bytes, mapped where that is possible. False, and the reason is told, where they cannot be had. */
 static bool take_file(struct file *f, const char *name)
 {
     bool standard = strcmp(name, "-") == 0;
-    int from = standard ? STDIN_FILENO : open(name, O_RDONLY);
     bool had = false;
 
     *f = (struct file){.name = standard ? "standard input" : name};
-    if (from >= 0)
-        had = (!standard && map_file(f, from)) || read_file(f, from);
+    f->from = standard ? STDIN_FILENO : open(name, O_RDONLY);
+    if (f->from >= 0)
+        had = (!standard && map_file(f)) || read_file(f);
     if (!had) {
         complain(f->name, "cannot be read: %s", strerror(errno));
         drop_file(f);
     }
-    if (!standard && from >= 0)
-        close(from);
     return had;
 }
 
@@ -207,11 +261,11 @@ static const char *refusal_words(uint64_t refusal)
 {
     switch (refusal) {
     case 1: return "it does not begin with \"BLENDER\": it is compressed, or no .blend file";
-    case 2: return "malformed: it is cut short, or a mark in it is wrong";
+    case 2: return "malformed: it is cut short, or one of the marks that have to stand in it is wrong";
     case 3: return "a block's address is 0";
-    case 4: return "a principal block's count is not 1";
-    case 5: return "a block's code is none of those that are known";
-    case 6: return "the last block is not DNA1, or there is no block";
+    case 4: return "the count of a principal block (an object, a lamp, a mesh, ..) is not 1";
+    case 5: return "a block's code is none of those that are known (two letters and two zeros, REND, TEST, GLOB, DATA, DNA1)";
+    case 6: return "the last block is not DNA1, the catalogue of types, or there is no block";
     case 7: return "the row table is too short";
     case 9: return "a dimension is no number of at most 2^64-1";
     case 10: return "a product is over 2^64-1";
@@ -227,7 +281,10 @@ static int tell_refusal(const struct scene *s)
     if (refusal == ROWS_SHORT)
         print(" %lu", s->read.needed);
     print("\n");
-    complain(s->file.name, "refused %lu: %s", refusal, s->file.length == 0 ? "it is empty" : refusal_words(refusal));
+    if (s->file.length == 0)
+        complain(s->file.name, "refused %lu: it is empty", refusal);
+    else
+        complain(s->file.name, "refused %lu: %s; it has %zu bytes", refusal, refusal_words(refusal), s->file.length);
     return REFUSED;
 }
 
@@ -256,31 +313,59 @@ struct part {
     uint64_t blocks, headers, payloads;
 };
 
-/* Whether the first block begins where the header ends and each other one where the one before it ends, and the end mark ends after the last one and in the
- * file. Then no byte is counted twice or left out. Where the last block ends goes into `last`. */
-static bool in_order(const struct scene *s, uint64_t header, uint64_t *last)
+/* Whether the first block begins where the header ends and each other one where the one before it ends, all with block headers of one length, and the end mark stands after
+ * the last one, has its length, and is in the file. Then no byte is counted twice or left out, and none is counted as what it is not. */
+static bool in_order(const struct scene *s, uint64_t header)
 {
-    uint64_t at = header;
+    uint64_t at = header, block_header = s->rows[PAYLOAD_AT] - s->rows[HEADER_AT];
 
     for (const uint64_t *row = s->rows; row < s->rows + BLEND_ROW * s->read.rows; row += BLEND_ROW) {
-        if (row[HEADER_AT] != at || row[PAYLOAD_AT] < at || row[PAYLOAD_AT] > s->file.length)
+        if (row[HEADER_AT] != at || row[PAYLOAD_AT] - at != block_header || row[PAYLOAD_AT] > s->file.length)
             return false;
         if (row[PAYLOAD_LENGTH] > s->file.length - row[PAYLOAD_AT])
             return false;
         at = row[PAYLOAD_AT] + row[PAYLOAD_LENGTH];
     }
-    *last = at;
-    return at <= s->read.end && s->read.end <= s->file.length;
+    return at <= s->read.end && s->read.end - at == BLEND_END_MARK && s->read.end <= s->file.length;
 }
 
-static int by_code(const void *one, const void *other)
+/* Puts the rows into the order of their codes, in place: the C library's own sorting would take memory. A heap, whose largest row goes to its end again and again. */
+static void swap_rows(uint64_t *one, uint64_t *other)
 {
-    uint64_t a = ((const uint64_t *)one)[CODE], b = ((const uint64_t *)other)[CODE];
+    for (int i = 0; i < BLEND_ROW; i++) {
+        uint64_t number = one[i];
 
-    return (a > b) - (a < b);
+        one[i] = other[i];
+        other[i] = number;
+    }
 }
 
-/* A code as a number and, where all of it shows, as text. The zeros at the end of a principal block's code are no part of the text. */
+static void sink(uint64_t *rows, uint64_t count, uint64_t i)
+{
+    for (;;) {
+        uint64_t largest = i;
+
+        for (uint64_t below = 2 * i + 1; below <= 2 * i + 2 && below < count; below++)
+            if (rows[BLEND_ROW * below + CODE] > rows[BLEND_ROW * largest + CODE])
+                largest = below;
+        if (largest == i)
+            return;
+        swap_rows(rows + BLEND_ROW * i, rows + BLEND_ROW * largest);
+        i = largest;
+    }
+}
+
+static void sort_rows(uint64_t *rows, uint64_t count)
+{
+    for (uint64_t i = count / 2; i-- > 0;)
+        sink(rows, count, i);
+    while (count-- > 1) {
+        swap_rows(rows, rows + BLEND_ROW * count);
+        sink(rows, count, 0);
+    }
+}
+
+/* A code as text, where all of it shows, and as a number. The zeros at the end of a principal block's code are no part of the text. */
 static void put_code(uint64_t code)
 {
     char text[5] = {(char)(code >> 24), (char)(code >> 16), (char)(code >> 8), (char)code, 0};
@@ -291,7 +376,7 @@ static void put_code(uint64_t code)
         length--;
     for (size_t i = 0; i < length; i++)
         shows = shows && text[i] > ' ' && text[i] < 0x7f;
-    print("%08lx %-11s", code, shows ? text : "");
+    print("%-11s%08lx ", shows ? text : "", code);
 }
 
 static void put_part(const struct part *p)
@@ -310,7 +395,7 @@ static struct part put_blocks(struct scene *s)
     struct part all = {0, 0, 0};
     const uint64_t *row = s->rows, *end = s->rows + BLEND_ROW * s->read.rows;
 
-    qsort(s->rows, s->read.rows, BLEND_ROW * sizeof *s->rows, by_code);
+    sort_rows(s->rows, s->read.rows);
     while (row < end) {
         struct part same = {0, 0, 0};
         uint64_t code = row[CODE];
@@ -332,31 +417,25 @@ static struct part put_blocks(struct scene *s)
 static int summarise(struct scene *s)
 {
     const struct blend_read *r = &s->read;
-    uint64_t header = blend_header(s->file.bytes, s->file.length).length, last, mark, after, total;
+    uint64_t header = blend_header(s->file.bytes, s->file.length).length, after;
     struct part blocks;
 
-    if (!in_order(s, header, &last)) {
+    if (!in_order(s, header)) {
         complain(s->file.name, "not every byte is accounted for: its parts do not lie one after another");
         return BROKEN;
     }
-    mark = r->end - last;
     after = s->file.length - r->end;
-    print("%s: %s edition, %lu-bit pointers, %s-endian, version %lu.%lu\n\n", s->file.name, edition_of(s), 8 * r->pointer_bytes, order_of(s), r->major,
-          r->minor);
+    put_file_name(stdout, s->file.name);
+    print(": %s edition, %lu-bit pointers, %s-endian, version %lu.%lu\n\n", edition_of(s), 8 * r->pointer_bytes, order_of(s), r->major, r->minor);
     print("%-20s%10s%15s%20s%20s\n", "", "blocks", "block headers", "payloads", "bytes");
     put_bytes("header", header);
     blocks = put_blocks(s);
     print("%-20s", "all blocks");
     put_part(&blocks);
-    put_bytes("end mark", mark);
+    put_bytes("end mark", BLEND_END_MARK);
     put_bytes("after the end mark", after);
-    total = header + blocks.headers + blocks.payloads + mark + after;
-    put_bytes("total", total);
-    if (total != s->file.length) {
-        complain(s->file.name, "not every byte is accounted for: its parts add up to %lu, and its size is %zu", total, s->file.length);
-        return BROKEN;
-    }
-    print("\nEvery byte is accounted for: the parts lie one after another and add up to the size of the file, %lu bytes.\n", total);
+    put_bytes("total", header + blocks.headers + blocks.payloads + BLEND_END_MARK + after);
+    print("\nEvery byte is accounted for: the parts lie one after another and add up to the size of the file, %zu bytes.\n", s->file.length);
     return ALL_READ;
 }
 
@@ -427,8 +506,8 @@ static void put_name(const struct catalogue *c, const uint64_t *row, uint64_t nu
     print(row[TEXT_LENGTH] == 0 ? " \"\"" : " ");
     text = c->payload + row[TEXT_AT];
     for (uint64_t i = 0; i < row[TEXT_LENGTH]; i++) {
-        if (text[i] > ' ' && text[i] < 0x7f && text[i] != '"' && text[i] != '\\')
-            putchar(text[i]);
+        if (text[i] > ' ' && text[i] < 0x7f && text[i] != '"' && text[i] != '\\' && (text[i] != '?' || i > 0))
+            put_byte(text[i]);
         else
             print("\\x%02x", text[i]);
     }
@@ -473,13 +552,13 @@ static void put_field(struct catalogue *c, struct extent *e, const uint64_t *fie
     put_name(c, name, field[FIELD_NAME]);
     print("\n");
     if (type == NULL)
-        print("marked: the type of this field is past the list of types\n");
+        print("problem: the type of this field is past the list of types\n");
     if (name == NULL)
-        print("marked: the name of this field is past the list of names\n");
+        print("problem: the name of this field is past the list of names\n");
     if (width.refusal != 0)
-        print("marked: this field is refused %lu: %s\n", width.refusal, refusal_words(width.refusal));
+        print("problem: this field is refused %lu: %s\n", width.refusal, refusal_words(width.refusal));
     if (e->known && known && !fits)
-        print("marked: this field ends past 2^64-1\n");
+        print("problem: this field ends past 2^64-1\n");
     e->marked = e->marked || !known || (e->known && !fits);
     e->known = e->known && known && fits;
     e->bytes += width.value;
@@ -496,11 +575,11 @@ static bool put_struct(struct catalogue *c, uint64_t number)
     put_name(c, type, row[STRUCT_TYPE]);
     print("\n");
     if (type == NULL)
-        print("marked: the type of this struct is past the list of types\n");
+        print("problem: the type of this struct is past the list of types\n");
     for (uint64_t i = 0; i < row[STRUCT_FIELDS]; i++)
         put_field(c, &e, c->fields + BLEND_FIELD * (row[STRUCT_FIRST] + i));
     if (type != NULL && e.known && e.bytes != type[TYPE_SIZE]) {
-        print("marked: the fields of this struct take %lu bytes, which is not its size\n", e.bytes);
+        print("problem: the fields of this struct take %lu bytes, which is not its size\n", e.bytes);
         e.marked = true;
     }
     return e.marked;
@@ -525,7 +604,7 @@ static int catalogue(const struct scene *s)
     print("structs %lu\n", c.counts.structs);
     for (uint64_t i = 0; i < c.counts.structs; i++)
         marked += put_struct(&c, i);
-    print("marked %lu\n", marked);
+    print("problems %lu\n", marked);
     drop_catalogue(&c);
     return ALL_READ;
 }
@@ -547,27 +626,41 @@ static const char help[] =
     "                code, the end mark, what follows it\n"
     "  --catalogue   the types with their number and size, and the structs with their\n"
     "                number and size and, for each field, its offset, width, type and\n"
-    "                name. A line that begins with `marked:` tells what is wrong with\n"
+    "                name. A line that begins with `problem:` tells what is wrong with\n"
     "                what stands above it; the last line counts the structs with one\n"
     "  --help        this page\n"
     "  --            what follows are files, whatever they begin with\n"
     "\n"
+    "A file is a header, blocks, and the end mark ENDB. A block is a block header, with\n"
+    "a code that says what it is, and a payload, the data itself. Codes of two letters\n"
+    "are the scene's own things (OB objects, LA lamps, ME meshes ..), each followed by\n"
+    "DATA blocks with more of their data; GLOB, REND and TEST are about the whole file;\n"
+    "DNA1 is the catalogue, which says of what fields the data consist. The edition is\n"
+    "legacy or, from Blender 5 on, new. Numbers are decimal, codes hexadecimal, lengths\n"
+    "and offsets in bytes.\n"
+    "\n"
     "A file that is refused gives the line `refused N`, and the reason on standard\n"
     "error. Where there are several files, a line `file NAME` stands before each.\n"
     "\n"
+    "A named file is not copied, so nobody may write to it meanwhile: where that is seen\n"
+    "it is told. Standard input is copied: blendscan <FILE is for files that others use.\n"
+    "\n"
     "Exit status: 0 all files were read; 1 one was refused; 2 wrong usage, or a file\n"
-    "cannot be had; 3 anything else: output that cannot be written, too little memory.\n"
-    "Of several the highest.\n";
+    "cannot be had or was changed meanwhile; 3 anything else: output that cannot be\n"
+    "written, too little memory. Of several the highest.\n";
 
 static int scan(enum mode mode, const char *name)
 {
     struct scene s;
     int status;
 
+    name_scanned(name);
     if (!take_file(&s.file, name))
         return NOT_HAD;
     read_scene(&s);
-    if (s.read.refusal != 0)
+    if (!kept(&s.file))
+        status = NOT_HAD;
+    else if (s.read.refusal != 0)
         status = tell_refusal(&s);
     else if (mode == SUMMARY)
         status = summarise(&s);
@@ -575,6 +668,9 @@ static int scan(enum mode mode, const char *name)
         status = catalogue(&s);
     else
         status = list(&s);
+    settle();
+    if (status < NOT_HAD && !kept(&s.file))
+        status = NOT_HAD;
     free(s.rows);
     drop_file(&s.file);
     return status;
@@ -589,8 +685,11 @@ static int scan_all(enum mode mode, char **names, int count)
     for (int i = 0; i < count; i++) {
         int one;
 
-        if (count > 1)
-            print("file %s\n", names[i]);
+        if (count > 1) {
+            print("file ");
+            put_file_name(stdout, names[i]);
+            print("\n");
+        }
         one = scan(mode, names[i]);
         if (one > status)
             status = one;
@@ -631,7 +730,9 @@ int main(int argc, char **argv)
 
     setvbuf(stdout, output, _IOFBF, sizeof output);
     signal(SIGPIPE, SIG_IGN);
+    signal(SIGXFSZ, SIG_IGN);
     signal(SIGBUS, lost);
+    signal(SIGSEGV, lost);
     for (int i = 1; i < argc; i++) {
         if (names_only || argv[i][0] != '-' || argv[i][1] == 0) {
             argv[names++] = argv[i];

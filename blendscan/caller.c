@@ -1,5 +1,5 @@
 /* caller: holds the library to what blend.h promises its callers, at the edges. Each slice that is lent ends at a page that can be neither read nor written,
- * so a byte past it ends the program; an empty one is a pointer to that page, which blend.h says is not used. Tables hold a filling that a refused call must
+ * so a byte past it ends the program; an empty one is a pointer to that page, so that its use would end the program too. Tables hold a filling that a refused call must
  * leave, and that a call that answers must leave past what it fills.
  *
  * It prints how many checks were made and ends with 0, or tells the line of the first that fails and ends with 1. */

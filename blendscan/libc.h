@@ -5,7 +5,7 @@
 
 #if __STDC_HOSTED__
 
-#define _DEFAULT_SOURCE /* for MAP_ANONYMOUS; it asks for POSIX too */
+#define _DEFAULT_SOURCE /* for MAP_ANONYMOUS and st_mtim; it asks for POSIX too */
 #include <errno.h>
 #include <fcntl.h>
 #include <signal.h>
@@ -17,6 +17,7 @@
 #include <stdlib.h>
 #include <string.h>
 #include <sys/mman.h>
+#include <sys/stat.h>
 #include <unistd.h>
 
 #else
@@ -33,8 +34,7 @@ typedef struct _IO_FILE FILE;
 #define STDIN_FILENO 0
 #define STDERR_FILENO 2
 #define O_RDONLY 0
-#define SEEK_SET 0
-#define SEEK_END 2
+#define S_ISREG(mode) (((mode) & 0170000) == 0100000)
 #define PROT_NONE 0
 #define PROT_READ 1
 #define PROT_WRITE 2
@@ -43,10 +43,26 @@ typedef struct _IO_FILE FILE;
 #define MAP_FAILED ((void *)-1)
 #define EINTR 4
 #define SIGBUS 7
+#define SIGSEGV 11
 #define SIGPIPE 13
+#define SIGXFSZ 25
 #define SIG_IGN ((void (*)(int))1)
 #define _IOFBF 0
 #define errno (*__errno_location())
+
+struct timespec {
+    long tv_sec, tv_nsec;
+};
+
+struct stat {
+    unsigned long st_dev, st_ino, st_nlink;
+    unsigned st_mode, st_uid, st_gid, st_none;
+    unsigned long st_rdev;
+    off_t st_size;
+    long st_blksize, st_blocks;
+    struct timespec st_atim, st_mtim, st_ctim;
+    long st_reserved[3];
+};
 
 extern FILE *stdout, *stderr;
 
@@ -55,18 +71,18 @@ int open(const char *path, int flags, ...);
 int close(int file);
 ssize_t read(int file, void *bytes, size_t length);
 ssize_t write(int file, const void *bytes, size_t length);
-off_t lseek(int file, off_t offset, int whence);
+int fstat(int file, struct stat *how);
 void *mmap(void *address, size_t length, int protection, int flags, int file, off_t offset);
 int munmap(void *address, size_t length);
 int mprotect(void *address, size_t length, int protection);
 void *realloc(void *old, size_t size);
 void free(void *old);
-void qsort(void *base, size_t count, size_t size, int (*compare)(const void *, const void *));
 void *memcpy(void *to, const void *from, size_t length);
 int memcmp(const void *one, const void *other, size_t length);
 int strcmp(const char *one, const char *other);
 size_t strlen(const char *text);
 char *strerror(int number);
+char *getenv(const char *name);
 void (*signal(int number, void (*handler)(int)))(int);
 _Noreturn void exit(int status);
 _Noreturn void _exit(int status);
@@ -75,6 +91,7 @@ int setvbuf(FILE *file, char *buffer, int mode, size_t size);
 int fflush(FILE *file);
 int ferror(FILE *file);
 int putchar(int byte);
+int fputc(int byte, FILE *file);
 __attribute__((format(printf, 1, 2))) int printf(const char *format, ...);
 __attribute__((format(printf, 2, 3))) int fprintf(FILE *file, const char *format, ...);
 __attribute__((format(printf, 1, 0))) int vprintf(const char *format, va_list words);

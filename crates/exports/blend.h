@@ -3,8 +3,8 @@
  * A slice goes in as a pointer and the number of its elements, which must be there. For any bytes in them, and any other numbers, every function returns; none keeps a
  * pointer, allocates, or writes anywhere but in the tables that it is lent, which may be uninitialised. No pointer may be null, also not that of a slice of no
  * elements. Tables must not overlap each other or the bytes that are read, unless they have no elements; tables are of uint64_t, aligned as such. Nothing is
- * shared between calls, so they may be made from any thread. While a call runs nobody else may change what it is lent: a file that is mapped and that another
- * program writes to is best copied first.
+ * shared between calls, so they may be made from any thread. While a call runs nobody else may change what it is lent, or nothing is promised, also not where it
+ * reads and writes: a file that is mapped and that another program writes to is best copied first.
  *
  * In every answer `refusal` is 0, or the number of a refusal. On a refusal the tables hold what they held, and every number of the answer that the refusal does not
  * carry is 0 and says nothing: look at `refusal` first. On an answer `needed` and `table` are 0, and a table's numbers past those used are as they were.
@@ -52,6 +52,7 @@ extern "C" {
 #endif
 
 #define BLEND_BLOCK_LEAST 20 /* the bytes of the shortest block: a header of 20 bytes, and no payload */
+#define BLEND_END_MARK 4 /* the bytes of the end mark */
 
 #define BLEND_ROW 7 /* numbers to a row */
 #define BLEND_NAME 2
