@@ -16,8 +16,6 @@ use Rattle.blend.specs.Header.{decimal, legacy, new, headerBytes, valued
 use Rattle.blend.specs.Blocks.{fields, blockHeader, kindOf, block, rowAt, finished, boundaryOf}
 use Rattle.blend.specs.Chain.{chain, chainFrom, fileBy, readAs, rowTable, rowsOf}
 use Rattle.blend.specs.Walker.{stepBy, start}
-use Rattle.blend.specs.Views.{viewAs, partAs}
-use Rattle.blend.specs.Addresses.{seek, lookupAs, codeAs}
 
 -- headers: no magic, nothing after it, one of each edition, and a wrong mark; in a New header the unchecked bytes are anything
 headers : (headerAs (valued (run headerBytes (ascii "BLENDE") 0)) ≡ refuses 1 []) × (headerAs (valued (run headerBytes (ascii "BLENDER") 0)) ≡ refuses 2 [])
@@ -75,18 +73,3 @@ steps : (stepBy headerBytes hull start .answer ≡ accepts 0 (1329725440 ∷ 16 
     × (stepBy headerBytes hull (record { at = 116; dna = true }) .answer ≡ accepts 1 (120 ∷ [])) × (stepBy headerBytes hull (record { at = 121; dna = true }) .answer ≡ refuses 13 [])
 unfolding run then times headerBytes legacy new decimal boundaryOf rowAt block blockHeader fields kindOf finished catalogue listed strings sized structured struct fieldCount stepBy hull
 steps = (refl, refl, refl, refl)
-
--- Three rows: a GLOB, an OB and a DATA, all with the address 5.
-abbrev table : List ℕ
-table = (1196183362 ∷ 5 ∷ 0 ∷ 1 ∷ 0 ∷ 0 ∷ 2 ∷ []) ++ (1329725440 ∷ 5 ∷ 0 ∷ 1 ∷ 0 ∷ 3 ∷ 0 ∷ []) ++ (1145132097 ∷ 5 ∷ 0 ∷ 1 ∷ 0 ∷ 4 ∷ 0 ∷ [])
-
--- the first that is found by its address is the OB; two rows fewer find nothing; more rows than there are; Null; parts in a file of 3 bytes
-searches : (lookupAs table 3 5 ≡ accepts 1 (1 ∷ [])) × (lookupAs table 1 5 ≡ accepts 2 []) × (lookupAs table 4 0 ≡ refuses 13 []) × (lookupAs table 3 0 ≡ accepts 0 [])
-    × (partAs (7 ∷ 8 ∷ 9 ∷ []) table 0 ≡ 7 ∷ 8 ∷ []) × (viewAs (7 ∷ 8 ∷ 9 ∷ []) table 1 ≡ accepts 0 []) × (viewAs (7 ∷ 8 ∷ 9 ∷ []) table 2 ≡ refuses 13 []) × (viewAs (7 ∷ 8 ∷ 9 ∷ []) table 3 ≡ refuses 13 [])
-unfolding lookupAs seek kindOf viewAs partAs
-searches = (refl, refl, refl, refl, refl, refl, refl, refl)
-
--- codes: of an OB its bytes; of DATA, of no block code and of a number over 2^32-1 none
-codes : (codeAs 1329725440 ≡ accepts 0 (79 ∷ 66 ∷ 0 ∷ 0 ∷ [])) × (codeAs 1145132097 ≡ accepts 1 []) × (codeAs 1329725441 ≡ accepts 1 []) × (codeAs 4294967296 ≡ accepts 1 [])
-unfolding codeAs kindOf
-codes = (refl, refl, refl, refl)

@@ -9,6 +9,5 @@ pub mod Chains
 pub mod Lossless
 pub mod Answers
 pub mod Steps
-pub mod Views
 pub mod Walks
 pub mod Examples

@@ -27,14 +27,9 @@ use Rattle.blend.specs.declared.blend.HeaderAnswer.{HeaderAnswer}
 use Rattle.blend.specs.declared.blend.RawBlend.{RawBlend}
 use Rattle.blend.specs.declared.blend.BlendAnswer.{BlendAnswer}
 use Rattle.blend.specs.declared.walker.Step.{Step}
-use Rattle.blend.specs.declared.runtime.ViewAnswer.{ViewAnswer}
-use Rattle.blend.specs.declared.runtime.Pointer.{Pointer}
-use Rattle.blend.specs.declared.runtime.BlockCode.{BlockCode}
 use Rattle.blend.specs.Header.{pointerSizeRead, endiannessRead, versionRead, edition, order, headerNumbers, headerAs, paperHeader}
 use Rattle.blend.specs.Chain.{rowNumbers, countNumbers, paperBlend}
 use Rattle.blend.specs.Walker.{paperStep, placeOf}
-use Rattle.blend.specs.Views.{paperView}
-use Rattle.blend.specs.Addresses.{paperPointer, paperCode}
 
 edition-one : (f g : FileFormat) → edition f ≡ edition g → f ≡ g
 edition-one Legacy Legacy e = refl
@@ -148,33 +143,3 @@ wholeStep (Step.End m p) (Step.Refused n o) e g = cc
 wholeStep (Step.Refused m p) (Step.Block q o) e g = cc
 wholeStep (Step.Refused m p) (Step.End n o) e g = cc
 wholeStep (Step.Refused m p) (Step.Refused n o) e g = cc
-
-pub wholeView : (a b : ViewAnswer) → paperView a ≡ paperView b → a ≡ b
-wholeView ViewAnswer.There ViewAnswer.There e = cc
-wholeView ViewAnswer.There ViewAnswer.NotThere e = cc
-wholeView ViewAnswer.NotThere ViewAnswer.There e = cc
-wholeView ViewAnswer.NotThere ViewAnswer.NotThere e = cc
-
-pub wholePointer : (a b : Pointer) → paperPointer a ≡ paperPointer b → a ≡ b
-wholePointer Pointer.Null Pointer.Null e = cc
-wholePointer Pointer.Null (Pointer.Block n) e = cc
-wholePointer Pointer.Null Pointer.Missing e = cc
-wholePointer Pointer.Null Pointer.NotThere e = cc
-wholePointer (Pointer.Block m) Pointer.Null e = cc
-wholePointer (Pointer.Block m) (Pointer.Block n) e = cc
-wholePointer (Pointer.Block m) Pointer.Missing e = cc
-wholePointer (Pointer.Block m) Pointer.NotThere e = cc
-wholePointer Pointer.Missing Pointer.Null e = cc
-wholePointer Pointer.Missing (Pointer.Block n) e = cc
-wholePointer Pointer.Missing Pointer.Missing e = cc
-wholePointer Pointer.Missing Pointer.NotThere e = cc
-wholePointer Pointer.NotThere Pointer.Null e = cc
-wholePointer Pointer.NotThere (Pointer.Block n) e = cc
-wholePointer Pointer.NotThere Pointer.Missing e = cc
-wholePointer Pointer.NotThere Pointer.NotThere e = cc
-
-pub wholeCode : (a b : BlockCode) → paperCode a ≡ paperCode b → a ≡ b
-wholeCode (BlockCode.Is p q r s) (BlockCode.Is p′ q′ r′ s′) e = cc
-wholeCode (BlockCode.Is p q r s) BlockCode.None e = cc
-wholeCode BlockCode.None (BlockCode.Is p′ q′ r′ s′) e = cc
-wholeCode BlockCode.None BlockCode.None e = cc

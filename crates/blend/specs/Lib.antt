@@ -3,6 +3,4 @@ pub mod Header
 pub mod Blocks
 pub mod Chain
 pub mod Walker
-pub mod Views
-pub mod Addresses
 pub mod Helpers

@@ -1,6 +1,5 @@
 // The values that a reading of a file has: the types of parsers/blend.rs of the Rust, and a block's row.
 pub mod blend;
-pub mod runtime;
 pub mod walker;
 
 use primitive::Endianness;

@@ -15,7 +15,7 @@ use Rattle.held.specs.Held.{rowsSpelt}
 use Rattle.demands.specs.Answers.{Answers, rowsIn}
 use Rattle.demands.specs.Cover.{Covered}
 use Rattle.demands.specs.Examples.{AtTheEdges, scene, sound, changed, answer, before, after, ScenesAreRead}
-use Rattle.blend.specs.Views.{partAs}
+use Rattle.runtime.specs.Views.{partAs}
 use Rattle.demands.specs.Unaltered.{agree, Alike, Untouched, Stays}
 use Rattle.demands.proofs.Cover.{every-block}
 use Rattle.demands.proofs.Unaltered.{no-other-object, agree-near, agree-alike}

@@ -13,9 +13,10 @@ use Rattle.field.proofs.Lossless.{wholeField, wholeFunction, wholeWidth}
 use Rattle.blend.specs.declared.walker.Place.{Place}
 use Rattle.blend.specs.Header.{pointerSizeRead, endiannessRead, versionRead, paperHeader}
 use Rattle.blend.specs.Chain.{paperBlend}
-use Rattle.blend.specs.Views.{paperView}
-use Rattle.blend.specs.Addresses.{paperPointer, paperCode}
-use Rattle.blend.proofs.Lossless.{wholePointerSize, wholeEndianness, wholeVersion, wholeHeader, wholeBlend, wholeStep, wholeView, wholePointer, wholeCode}
+use Rattle.runtime.specs.Views.{paperView}
+use Rattle.runtime.specs.Addresses.{paperPointer, paperCode}
+use Rattle.blend.proofs.Lossless.{wholePointerSize, wholeEndianness, wholeVersion, wholeHeader, wholeBlend, wholeStep}
+use Rattle.runtime.proofs.Lossless.{wholeView, wholePointer, wholeCode}
 use Rattle.held.specs.declared.Walker.{Walker}
 use Rattle.held.specs.Held.{Stepped}
 use Rattle.demands.specs.OneOutcome.{Only, OneOutcome}
@@ -91,11 +92,11 @@ one-outcome =
       «blend::blend::block_header_code» = λ c s. told numbered wholeNumbered _;
       «blend::blend::blend» = λ file table. told paperBlend wholeBlend _;
       «blend::blend::blend:table» = λ file table. given _;
-      «blend::runtime::view» = λ file table row. told paperView wholeView _;
-      «blend::runtime::view_part» = λ file table row. given _;
-      «blend::runtime::matches» = λ wanted code address. given _;
-      «blend::runtime::get_ptr» = λ table rows address. told paperPointer wholePointer _;
-      «blend::runtime::code» = λ number. told paperCode wholeCode _;
+      «runtime::runtime::view» = λ file table row. told paperView wholeView _;
+      «runtime::runtime::view_part» = λ file table row. given _;
+      «runtime::runtime::matches» = λ wanted code address. given _;
+      «runtime::runtime::get_ptr» = λ table rows address. told paperPointer wholePointer _;
+      «runtime::runtime::code» = λ number. told paperCode wholeCode _;
       «blend::walker::Place::start» = given _;
       «blend::walker::Place::step» = λ self file. step _ _;
       «held::step_at» = λ file place. step _ _;

@@ -25,7 +25,7 @@ use Rattle.blend.specs.declared.blend.BlendAnswer.{BlendAnswer}
 use Rattle.blend.specs.Blocks.{codeNumber, kindOf, isDna, payloadOf}
 use Rattle.blend.specs.Chain.{Chain, File, chain, chainFrom, onHeader, fileBy, perRow, rowTable, readAs, tableAfter}
 use Rattle.blend.specs.Header.{HeaderBytes, headerBytes, valued}
-use Rattle.blend.specs.Views.{cell, isThere, viewAs, partAs}
+use Rattle.runtime.specs.Views.{cell, isThere, viewAs, partAs}
 use Rattle.blend.proofs.Chains.{table-length, block-lies}
 use Rattle.blend.proofs.Lossless.{wholeBlend}
 use Rattle.held.specs.Held.{none, rowSpelt}

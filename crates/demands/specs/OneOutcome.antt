@@ -56,15 +56,15 @@ use Rattle.blend.specs.declared.blend.HeaderAnswer.{HeaderAnswer}
 use Rattle.blend.specs.declared.blend.BlendAnswer.{BlendAnswer}
 use Rattle.blend.specs.declared.walker.Place.{Place}
 use Rattle.blend.specs.declared.walker.Step.{Step}
-use Rattle.blend.specs.declared.runtime.ViewAnswer.{ViewAnswer}
-use Rattle.blend.specs.declared.runtime.Pointer.{Pointer}
-use Rattle.blend.specs.declared.runtime.BlockCode.{BlockCode}
+use Rattle.runtime.specs.declared.runtime.ViewAnswer.{ViewAnswer}
+use Rattle.runtime.specs.declared.runtime.Pointer.{Pointer}
+use Rattle.runtime.specs.declared.runtime.BlockCode.{BlockCode}
 use Rattle.blend.specs.Header.{headerLength, pointerMark, orderMark, versionOf, headerBytes, valued, pointerSizeRead, endiannessRead, versionRead, headerAs, paperHeader, refusalOf}
 use Rattle.blend.specs.Blocks.{blockHeaderLength, kindOf}
 use Rattle.blend.specs.Chain.{fileBy, perRow, readAs, tableAfter, paperBlend}
 use Rattle.blend.specs.Walker.{stepBy, paperStep, placeOf, start}
-use Rattle.blend.specs.Views.{cell, viewAs, partAs, paperView}
-use Rattle.blend.specs.Addresses.{matches, lookupAs, paperPointer, codeAs, paperCode}
+use Rattle.runtime.specs.Views.{cell, viewAs, partAs, paperView}
+use Rattle.runtime.specs.Addresses.{matches, lookupAs, paperPointer, codeAs, paperCode}
 use Rattle.exports.specs.declared.BlendHeader.{BlendHeader}
 use Rattle.exports.specs.declared.BlendRead.{BlendRead}
 use Rattle.exports.specs.declared.BlendCatalogue.{BlendCatalogue}
@@ -143,11 +143,11 @@ pub record OneOutcome : Type 0 where
   pub «blend::blend::block_header_code» : (c : Cursor) (s : List ℕ) → Only (λ (r : Numbered). numbered r ≡ run (number Endianness.Big 4 done) s (c .at))
   pub «blend::blend::blend» : (file table : List ℕ) → Only (λ (r : BlendAnswer). paperBlend r ≡ readAs (fileBy headerBytes file) (length table / perRow))
   pub «blend::blend::blend:table» : (file table : List ℕ) → Only (λ (table′ : List ℕ). table′ ≡ tableAfter (fileBy headerBytes file) table)
-  pub «blend::runtime::view» : (file table : List ℕ) (row : ℕ) → Only (λ (r : ViewAnswer). paperView r ≡ viewAs file table row)
-  pub «blend::runtime::view_part» : (file table : List ℕ) (row : ℕ) → Only (λ (r : List ℕ). r ≡ partAs file table row)
-  pub «blend::runtime::matches» : (wanted code address : ℕ) → Only (λ (r : Bool). r ≡ matches wanted code address)
-  pub «blend::runtime::get_ptr» : (table : List ℕ) (rows address : ℕ) → Only (λ (r : Pointer). paperPointer r ≡ lookupAs table rows address)
-  pub «blend::runtime::code» : (number : ℕ) → Only (λ (r : BlockCode). paperCode r ≡ codeAs number)
+  pub «runtime::runtime::view» : (file table : List ℕ) (row : ℕ) → Only (λ (r : ViewAnswer). paperView r ≡ viewAs file table row)
+  pub «runtime::runtime::view_part» : (file table : List ℕ) (row : ℕ) → Only (λ (r : List ℕ). r ≡ partAs file table row)
+  pub «runtime::runtime::matches» : (wanted code address : ℕ) → Only (λ (r : Bool). r ≡ matches wanted code address)
+  pub «runtime::runtime::get_ptr» : (table : List ℕ) (rows address : ℕ) → Only (λ (r : Pointer). paperPointer r ≡ lookupAs table rows address)
+  pub «runtime::runtime::code» : (number : ℕ) → Only (λ (r : BlockCode). paperCode r ≡ codeAs number)
   pub «blend::walker::Place::start» : Only (λ (r : Place). r ≡ start)
   pub «blend::walker::Place::step» : (self : Place) (file : List ℕ) → Only (λ (r : Step). (paperStep r ≡ stepBy headerBytes file self .answer) × (placeOf r ≡ stepBy headerBytes file self .place))
   -- The forms that hold references: `held`

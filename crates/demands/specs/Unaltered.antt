@@ -19,7 +19,7 @@ use Rattle.blend.specs.Blocks.{codeNumber}
 use Rattle.blend.specs.Chain.{File}
 use Rattle.blend.specs.Chain.{fileBy}
 use Rattle.blend.specs.Header.{HeaderBytes, headerBytes}
-use Rattle.blend.specs.Views.{cell, viewAs, partAs}
+use Rattle.runtime.specs.Views.{cell, viewAs, partAs}
 use Rattle.demands.specs.Answers.{Answers, HeaderTree, rowsIn}
 
 -- a block other than DNA1

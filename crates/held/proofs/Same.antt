@@ -11,9 +11,9 @@ use lib.ListN.{length, getD}
 use Rattle.primitive.specs.Paper.{Paper}
 use Rattle.primitive.specs.Refusals.{notThere}
 use Rattle.blend.specs.declared.Row.{Row}
-use Rattle.blend.specs.Addresses.{matches, null, found, seek, lookupAs}
+use Rattle.runtime.specs.Addresses.{matches, null, found, seek, lookupAs}
 use Rattle.blend.specs.Chain.{rowNumbers, rowTable}
-use Rattle.blend.specs.Views.{cell}
+use Rattle.runtime.specs.Views.{cell}
 use Rattle.blend.proofs.Chains.{table-length}
 use Rattle.held.specs.Held.{none, rowIs, lookupRows, rowSpelt, rowsSpelt, spelt}
 

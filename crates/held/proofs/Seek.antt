@@ -5,8 +5,8 @@ use mathlib.Core.Bool.{Bool, true, false, not}
 use lib.Dec.{T}
 use Rattle.primitive.specs.Paper.{Paper}
 use Rattle.primitive.proofs.Tests.{held, failed}
-use Rattle.blend.specs.Addresses.{found, missing, seek}
-use Rattle.blend.proofs.Views.{seek-turn, seek-over, seek-starts}
+use Rattle.runtime.specs.Addresses.{found, missing, seek}
+use Rattle.runtime.proofs.Views.{seek-turn, seek-over, seek-starts}
 
 -- a test as a walk has it
 pub holds : (t : Bool) → T t → t ≡ true

@@ -10,10 +10,10 @@ use Rattle.primitive.specs.Refusals.{notThere}
 use Rattle.blend.specs.declared.Row.{Row}
 use Rattle.blend.specs.declared.walker.Place.{Place}
 use Rattle.blend.specs.declared.walker.Step.{Step}
-use Rattle.blend.specs.Addresses.{matches, null, seek}
+use Rattle.runtime.specs.Addresses.{matches, null, seek}
 use Rattle.blend.specs.Chain.{perRow}
 use Rattle.blend.specs.Header.{headerBytes}
-use Rattle.blend.specs.Views.{cell}
+use Rattle.runtime.specs.Views.{cell}
 use Rattle.blend.specs.Walker.{stepBy, paperStep, placeOf}
 
 -- a step as the walker on plain parameters has it: the answer on paper, and the place that is handed back

@@ -1,12 +1,12 @@
 // Two calls of the reader in forms that hold references: a walker that holds the file's slice, and the search for an address in a lent list of
 // row records. Each is thin: what matters is in the crate `blend`, on plain parameters.
 use blend::Row;
-use blend::runtime::Pointer;
-use blend::runtime::matches;
 use blend::walker::Place;
 use blend::walker::Step;
+use runtime::runtime::Pointer;
+use runtime::runtime::matches;
 ghost use mathlib.Core.Path.{_≡_};
-ghost use Rattle.blend.specs.Addresses.{paperPointer};
+ghost use Rattle.runtime.specs.Addresses.{paperPointer};
 ghost use Rattle.blend.specs.Walker.{start};
 ghost use Rattle.held.specs.Held.{Stepped, rowIs, lookupRows};
 

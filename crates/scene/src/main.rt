@@ -7,13 +7,6 @@ use blend::blend::BlendAnswer;
 use blend::blend::HeaderAnswer;
 use blend::blend::blend;
 use blend::blend::header;
-use blend::runtime::BlockCode;
-use blend::runtime::Pointer;
-use blend::runtime::ViewAnswer;
-use blend::runtime::code;
-use blend::runtime::get_ptr;
-use blend::runtime::view;
-use blend::runtime::view_part;
 use blend::walker::Place;
 use blend::walker::Step;
 use dna::dna::DnaCounts;
@@ -22,6 +15,13 @@ use held::step_from;
 use libc::STDOUT_FILENO;
 use primitive::Endianness;
 use primitive::PointerSize;
+use runtime::runtime::BlockCode;
+use runtime::runtime::Pointer;
+use runtime::runtime::ViewAnswer;
+use runtime::runtime::code;
+use runtime::runtime::get_ptr;
+use runtime::runtime::view;
+use runtime::runtime::view_part;
 
 // What a table holds before a call: as a code it is none, and as an offset it lies past every file.
 const FILL: u64 = 1000000007;

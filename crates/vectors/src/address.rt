@@ -10,13 +10,13 @@ use crate::out::number;
 use crate::out::text;
 use blend::blend::BlendAnswer;
 use blend::blend::blend;
-use blend::runtime::BlockCode;
-use blend::runtime::Pointer;
-use blend::runtime::code;
-use blend::runtime::get_ptr;
 use primitive::Endianness;
 use primitive::primitive::ValueU64;
 use primitive::primitive::parse_u64;
+use runtime::runtime::BlockCode;
+use runtime::runtime::Pointer;
+use runtime::runtime::code;
+use runtime::runtime::get_ptr;
 
 fn code_line(space: &mut [u8; SIZE], at: &mut usize, n: u64) {
     match code(n) {

@@ -13,12 +13,12 @@ use blend::Row;
 use blend::blend::BlendAnswer;
 use blend::blend::RawBlend;
 use blend::blend::blend;
-use blend::runtime::ViewAnswer;
-use blend::runtime::view;
-use blend::runtime::view_part;
 use blend::walker::Place;
 use blend::walker::Step;
 use primitive::PointerSize;
+use runtime::runtime::ViewAnswer;
+use runtime::runtime::view;
+use runtime::runtime::view_part;
 use std::num::wrapping_add_u64;
 
 // 128 rows.

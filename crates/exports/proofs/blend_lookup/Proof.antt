@@ -1,6 +1,6 @@
 -- `blend_lookup`: what an address leads to, or refusal 13.
 use mathlib.Core.Path.{sym, _∙_, ap}
-use Rattle.blend.specs.Addresses.{paperPointer}
+use Rattle.runtime.specs.Addresses.{paperPointer}
 use Rattle.exports.specs.Exports.{pointerOut}
 use borrow.Author.Needs.{needs}
 use Rattle.exports.proofs.blend_lookup.Statement.{statement}

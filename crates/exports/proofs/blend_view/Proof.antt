@@ -2,8 +2,8 @@
 use mathlib.Core.Path.{sym, _∙_, ap}
 use denote.Ref.{now}
 use Rattle.primitive.specs.Paper.{Paper}
-use Rattle.blend.specs.Views.{cell, paperView}
-use Rattle.blend.proofs.Views.{view-no-row}
+use Rattle.runtime.specs.Views.{cell, paperView}
+use Rattle.runtime.proofs.Views.{view-no-row}
 use Rattle.exports.specs.Exports.{viewOut}
 use borrow.Author.Needs.{needs}
 use Rattle.exports.proofs.blend_view.Statement.{statement}

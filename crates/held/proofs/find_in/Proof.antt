@@ -3,14 +3,14 @@ use Rattle.held.proofs.Walk.{_≡_, refl, sym, subst, ℕ, _<_, _^_, Li
 use denote.Struct.Laws as LL
 use denote.Enum.Laws as EL
 use Rattle.primitive.specs.Paper.{Paper}
-use Rattle.blend.specs.Addresses.{paperPointer}
+use Rattle.runtime.specs.Addresses.{paperPointer}
 use Rattle.held.specs.Held.{lookupRows}
 use Rattle.blend.specs.declared.Row.{Row}
-use Rattle.blend.specs.declared.runtime.Pointer.{Pointer}
+use Rattle.runtime.specs.declared.runtime.Pointer.{Pointer}
 use Rattle.blend.proofs.Row as R
 use Rattle.blend.proofs.Row.Laws as R′
-use Rattle.blend.proofs.runtime.Pointer as S
-use Rattle.blend.proofs.runtime.Pointer.Laws as S′
+use Rattle.runtime.proofs.runtime.Pointer as S
+use Rattle.runtime.proofs.runtime.Pointer.Laws as S′
 use Rattle.held.proofs.find_row.Symbol.{name as #held·find-row}
 use Rattle.held.proofs.find_row as find
 use Rattle.held.proofs.find_row.Symbol as find-def

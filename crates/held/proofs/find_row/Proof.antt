@@ -5,16 +5,16 @@ use denote.Struct.Laws as LL
 use denote.Enum.Laws as EL
 use Rattle.primitive.specs.Paper.{Paper}
 use Rattle.primitive.specs.Refusals.{notThere}
-use Rattle.blend.specs.Addresses.{seek, null, paperPointer}
+use Rattle.runtime.specs.Addresses.{seek, null, paperPointer}
 use Rattle.held.specs.Held.{none, rowIs, lookupRows}
 use Rattle.blend.specs.declared.Row.{Row}
-use Rattle.blend.specs.declared.runtime.Pointer.{Pointer}
+use Rattle.runtime.specs.declared.runtime.Pointer.{Pointer}
 use Rattle.held.proofs.Past.{past}
 use Rattle.held.proofs.Seek as law
 use Rattle.blend.proofs.Row as R
 use Rattle.blend.proofs.Row.Laws as R′
-use Rattle.blend.proofs.runtime.Pointer as S
-use Rattle.blend.proofs.runtime.Pointer.Laws as S′
+use Rattle.runtime.proofs.runtime.Pointer as S
+use Rattle.runtime.proofs.runtime.Pointer.Laws as S′
 use Rattle.held.proofs.row_is.Symbol.{name as #held·row-is}
 use Rattle.held.proofs.row_is as row-is
 use Rattle.held.proofs.row_is.Symbol as row-is-def

@@ -1,10 +1,10 @@
 -- `code`: by the kind.
 use mathlib.Core.Path.{sym, _∙_, ap}
 use Rattle.primitive.proofs.Tests.{held, failed}
-use Rattle.blend.specs.Addresses.{hasCode, codeAs}
+use Rattle.runtime.specs.Addresses.{hasCode, codeAs}
 use borrow.Author.Needs.{needs}
-use Rattle.blend.proofs.runtime.code.Statement.{statement}
-use Rattle.blend.proofs.runtime.code.Tie as tie
+use Rattle.runtime.proofs.runtime.code.Statement.{statement}
+use Rattle.runtime.proofs.runtime.code.Tie as tie
 
 of-code-requires : tie.Need-of-code-requires
 of-code-requires c κs = search needs

@@ -7,12 +7,12 @@ use lib.ListN.{length}
 use Rattle.primitive.specs.Paper.{Paper}
 use Rattle.primitive.specs.Paper.Paper.{accepts}
 use Rattle.primitive.specs.Refusals.{notThere}
 use Rattle.blend.specs.declared.Kind.{Kind}
-use Rattle.blend.specs.declared.runtime.Pointer.{Pointer}
-use Rattle.blend.specs.declared.runtime.BlockCode.{BlockCode}
+use Rattle.runtime.specs.declared.runtime.Pointer.{Pointer}
+use Rattle.runtime.specs.declared.runtime.BlockCode.{BlockCode}
 use Rattle.blend.specs.Blocks.{kindOf}
 use Rattle.blend.specs.Chain.{perRow}
-use Rattle.blend.specs.Views.{cell}
+use Rattle.runtime.specs.Views.{cell}
 
 -- Principal and Subsidiary (DATA) rows are found by their address.
 abbrev pub isFound : Kind → Bool

@@ -8,8 +8,8 @@ use Rattle.primitive.specs.Paper.{Paper}
 use Rattle.primitive.specs.Paper.Paper.{accepts}
 use Rattle.primitive.specs.Reader.{room}
 use Rattle.primitive.specs.Refusals.{notThere}
-use Rattle.blend.specs.declared.runtime.ViewAnswer.{ViewAnswer}
+use Rattle.runtime.specs.declared.runtime.ViewAnswer.{ViewAnswer}
 use Rattle.blend.specs.Chain.{perRow}
 
 -- a number of a row: 0 its code, 1 its address, to 6 the length of its payload
 abbrev pub cell : List ℕ → ℕ → ℕ → ℕ

@@ -5,10 +5,10 @@ use denote.Ref.{now}
 use borrow.Author.Needs.{needs}
 use Prim.Native.Nat.{_-_, _/_, _≤_}
 use lib.ListN.{length}
-use Rattle.blend.specs.Addresses.{seek, lookupAs}
-use Rattle.blend.proofs.Views.{at-row, lookup-short, lookup-null, lookup-starts, lookup-found, lookup-on, lookup-missing}
-use Rattle.blend.proofs.runtime.get_ptr.Statement.{statement}
-use Rattle.blend.proofs.runtime.get_ptr.Tie as tie
+use Rattle.runtime.specs.Addresses.{seek, lookupAs}
+use Rattle.runtime.proofs.Views.{at-row, lookup-short, lookup-null, lookup-starts, lookup-found, lookup-on, lookup-missing}
+use Rattle.runtime.proofs.runtime.get_ptr.Statement.{statement}
+use Rattle.runtime.proofs.runtime.get_ptr.Tie as tie
 
 abbrev Inv-loop : tie.InvT-loop
 Inv-loop table rows address row₀ row = (lookupAs table rows address ≡ seek (at-row table rows address) (rows - row) row) × (rows ≤ length table / 7)

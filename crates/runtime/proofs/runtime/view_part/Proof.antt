@@ -1,9 +1,9 @@
 -- `view_part`: the row, and its part.
 use denote.Ref.{now}
-use Rattle.blend.proofs.Views.{part-no-row, part-there}
+use Rattle.runtime.proofs.Views.{part-no-row, part-there}
 use borrow.Author.Needs.{needs}
-use Rattle.blend.proofs.runtime.view_part.Statement.{statement}
-use Rattle.blend.proofs.runtime.view_part.Tie as tie
+use Rattle.runtime.proofs.runtime.view_part.Statement.{statement}
+use Rattle.runtime.proofs.runtime.view_part.Tie as tie
 
 cell-requires : tie.Need-cell-requires
 cell-requires c κs = search needs

@@ -16,9 +16,9 @@ use Rattle.primitive.specs.Reader.Reader.{done, skip}
 use Rattle.primitive.specs.Reader.Outcome.{read, fault}
 use Rattle.primitive.specs.Refusals.{notThere}
 use Rattle.primitive.proofs.Tests.{held, failed}
-use Rattle.blend.specs.Views.{cell, isThere, viewAs, partAs}
-use Rattle.blend.specs.Addresses.{matches, null, found, missing, seek, lookupAs}
+use Rattle.runtime.specs.Views.{cell, isThere, viewAs, partAs}
+use Rattle.runtime.specs.Addresses.{matches, null, found, missing, seek, lookupAs}
 use Rattle.blend.proofs.Rows.{skip-room}
 
 module _ (s t : List ℕ) (row : ℕ) where
   no-row : length t / 7 ≤ row → isThere s t row ≡ false

@@ -1,8 +1,8 @@
 -- `is_found`: kind by kind.
 use mathlib.Core.Path.{refl}
 use borrow.Author.Needs.{needs}
-use Rattle.blend.proofs.runtime.is_found.Statement.{statement}
-use Rattle.blend.proofs.runtime.is_found.Tie as tie
+use Rattle.runtime.proofs.runtime.is_found.Statement.{statement}
+use Rattle.runtime.proofs.runtime.is_found.Tie as tie
 
 enum-told : tie.Need-enum-told
 enum-told c = search needs

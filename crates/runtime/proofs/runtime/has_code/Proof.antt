@@ -1,8 +1,8 @@
 -- `has_code`: kind by kind.
 use mathlib.Core.Path.{refl}
 use borrow.Author.Needs.{needs}
-use Rattle.blend.proofs.runtime.has_code.Statement.{statement}
-use Rattle.blend.proofs.runtime.has_code.Tie as tie
+use Rattle.runtime.proofs.runtime.has_code.Statement.{statement}
+use Rattle.runtime.proofs.runtime.has_code.Tie as tie
 
 enum-told : tie.Need-enum-told
 enum-told c = search needs

@@ -1,15 +1,15 @@
 // Of runtime.rs of the Rust: a block's code and the search for an address, over the row table. Views (added) are the parts of a file that rows
 // tell of.
-use crate::Kind;
-use crate::Row;
+use blend::Kind;
+use blend::Row;
 use primitive::cursor::Cursor;
 use primitive::cursor::Moved;
 ghost use mathlib.Core.Path.{_≡_};
 ghost use Prim.Native.Nat.{_/_, _<_};
 ghost use lib.ListN.{length};
 ghost use Rattle.blend.specs.Chain.{perRow};
-ghost use Rattle.blend.specs.Views as views;
-ghost use Rattle.blend.specs.Addresses as addresses;
+ghost use Rattle.runtime.specs.Views as views;
+ghost use Rattle.runtime.specs.Addresses as addresses;
 
 pub enum ViewAnswer {
     There,

@@ -2,10 +2,10 @@
 use mathlib.Core.Path.{sym, _∙_, ap}
 use denote.Ref.{now}
 use Rattle.primitive.specs.Cursor.{moved}
-use Rattle.blend.proofs.Views.{view-no-row, view-there, view-not-there}
+use Rattle.runtime.proofs.Views.{view-no-row, view-there, view-not-there}
 use borrow.Author.Needs.{needs}
-use Rattle.blend.proofs.runtime.view.Statement.{statement}
-use Rattle.blend.proofs.runtime.view.Tie as tie
+use Rattle.runtime.proofs.runtime.view.Statement.{statement}
+use Rattle.runtime.proofs.runtime.view.Tie as tie
 
 cell-requires : tie.Need-cell-requires
 cell-requires c κs = search needs

@@ -2,10 +2,10 @@
 use mathlib.Core.Path.{sym, _∙_, ap}
 use mathlib.Core.Bool.{Bool, _&&_}
 use lib.Dec.{eqb}
-use Rattle.blend.specs.Addresses.{isFound}
+use Rattle.runtime.specs.Addresses.{isFound}
 use borrow.Author.Needs.{needs}
-use Rattle.blend.proofs.runtime.matches.Statement.{statement}
-use Rattle.blend.proofs.runtime.matches.Tie as tie
+use Rattle.runtime.proofs.runtime.matches.Statement.{statement}
+use Rattle.runtime.proofs.runtime.matches.Tie as tie
 
 of-code-requires : tie.Need-of-code-requires
 of-code-requires c κs = search needs

@@ -1,0 +1,3 @@
+-- The rules of views and of the search for an address.
+pub mod Views
+pub mod Addresses
