@@ -16,7 +16,7 @@ use Rattle.primitive.specs.Reader.{Reader, Outcome, run, times, room}
 use Rattle.primitive.specs.Reader.Reader.{done}
 use Rattle.primitive.specs.Reader.Outcome.{read, fault}
 use Rattle.primitive.proofs.Onward.{number-moves}
-use Rattle.primitive.proofs.Reading.{number-there}
+use Rattle.primitive.proofs.Reading.{onwards, number-there}
 use Rattle.primitive.proofs.Tests.{held, failed}
 use Rattle.primitive.proofs.Times.{past-none, past-more, times-stops}
 use Rattle.dna.specs.Catalogue.{size, field}
@@ -30,19 +30,19 @@ Reached = Outcome (Unit {0})
 abbrev reach : List ℕ → ℕ → ℕ → Reached
 reach s n at = elim (leb n (shortsFrom s at)) [ true ↦ read tt (at + 2 * n) | false ↦ fault (Cut (at + 2 * shortsFrom s at)) ]
 
-abbrev onFrom : Reached → (ℕ → Reached) → Reached
-onFrom (read u next) f = f next
-onFrom (fault x) f = fault x
+-- and what comes after them, from where they end
+abbrev further : Reached → (ℕ → Reached) → Reached
+further o f = onwards o (λ u next. f next)
 
 module _ (s : List ℕ) where
-  pub there : (n at : ℕ) → n ≤ shortsFrom s at → reach s n at ≡ read tt (at + 2 * n)
+  there : (n at : ℕ) → n ≤ shortsFrom s at → reach s n at ≡ read tt (at + 2 * n)
   there n at h = held _ _ (le-leb _ _ h)
 
-  pub cut : (n at : ℕ) → shortsFrom s at < n → reach s n at ≡ fault (Cut (at + 2 * shortsFrom s at))
+  cut : (n at : ℕ) → shortsFrom s at < n → reach s n at ≡ fault (Cut (at + 2 * shortsFrom s at))
   cut n at h = failed _ _ (lt-leb _ _ h)
 
   -- some, and then some more
-  reach-on : (k m at : ℕ) → reach s (k + m) at ≡ onFrom (reach s k at) (reach s m)
+  reach-on : (k m at : ℕ) → reach s (k + m) at ≡ further (reach s k at) (reach s m)
   reach-on k m at = go (leb k (shortsFrom s at)) refl
     where
       more : (b : Bool) → leb m (shortsFrom s (at + 2 * k)) ≡ b → k ≤ shortsFrom s at → reach s (k + m) at ≡ reach s m (at + 2 * k)
@@ -57,13 +57,13 @@ module _ (s : List ℕ) where
           let p : at + 2 * shortsFrom s at ≡ at + 2 * k + 2 * shortsFrom s (at + 2 * k) = omega arith in
           cut (k + m) at n ∙ ap (λ (q : ℕ). fault (Cut q)) p ∙ sym (cut m (at + 2 * k) u)
 
-      go : (b : Bool) → leb k (shortsFrom s at) ≡ b → reach s (k + m) at ≡ onFrom (reach s k at) (reach s m)
+      go : (b : Bool) → leb k (shortsFrom s at) ≡ b → reach s (k + m) at ≡ further (reach s k at) (reach s m)
       go true t =
           let h : k ≤ shortsFrom s at = leb-true _ _ t in
-          more (leb m (shortsFrom s (at + 2 * k))) refl h ∙ sym (ap (λ (o : Reached). onFrom o (reach s m)) (there k at h))
+          more (leb m (shortsFrom s (at + 2 * k))) refl h ∙ sym (ap (λ (o : Reached). further o (reach s m)) (there k at h))
       go false t =
           let h : shortsFrom s at < k = leb-false _ _ t in
-          cut (k + m) at (omega arith) ∙ sym (ap (λ (o : Reached). onFrom o (reach s m)) (cut k at h))
+          cut (k + m) at (omega arith) ∙ sym (ap (λ (o : Reached). further o (reach s m)) (cut k at h))
 
   -- a tree that is k of them, n times
   module _ {A : Type 0} (r : Reader A) (k : ℕ) (each : (at : ℕ) → past (run r s at) ≡ reach s k at) where
@@ -74,15 +74,15 @@ module _ (s : List ℕ) where
         sym (past-none r s at) ∙ sym (rw z (there 0 at (omega arith) ∙ ap (λ (q : ℕ). read tt q) p))
     times-reach (suc n) at = go (run r s at) refl (times-reach n)
       where
-        split : reach s (k * suc n) at ≡ onFrom (reach s k at) (reach s (k * n))
+        split : reach s (k * suc n) at ≡ further (reach s k at) (reach s (k * n))
         split =
             let q : k * suc n ≡ k + k * n = omega (arith, mul-suc k n) in
             ap (λ (j : ℕ). reach s j at) q ∙ reach-on k (k * n) at
 
         go : (o : Outcome A) → run r s at ≡ o → ((from : ℕ) → past (run (times n r) s from) ≡ reach s (k * n) from)
             → past (run (times (suc n) r) s at) ≡ reach s (k * suc n) at
-        go (read a next) t f = past-more r s n at a next t ∙ f next ∙ sym (split ∙ ap (λ (o : Reached). onFrom o (reach s (k * n))) (sym (each at) ∙ ap past t))
-        go (fault x) t f = ap past (times-stops r s n at x t) ∙ sym (split ∙ ap (λ (o : Reached). onFrom o (reach s (k * n))) (sym (each at) ∙ ap past t))
+        go (read a next) t f = past-more r s n at a next t ∙ f next ∙ sym (split ∙ ap (λ (o : Reached). further o (reach s (k * n))) (sym (each at) ∙ ap past t))
+        go (fault x) t f = ap past (times-stops r s n at x t) ∙ sym (split ∙ ap (λ (o : Reached). further o (reach s (k * n))) (sym (each at) ∙ ap past t))
 
   module _ (e : Endianness) where
     size-reach : (at : ℕ) → past (run (size e) s at) ≡ reach s 1 at
@@ -108,8 +108,8 @@ module _ (s : List ℕ) where
 
         one : (o : Outcome ℕ) → run (number e 2 done) s at ≡ o → past (run (field e) s at) ≡ reach s 2 at
         one (read t mid) k =
-            two t mid k (run (number e 2 done) s mid) refl ∙ sym (reach-on 1 1 at ∙ ap (λ (o : Reached). onFrom o (reach s 1)) (sym (size-reach at) ∙ ap past k))
-        one (fault x) k = ap past (sym (field-stops e s at x (sym k))) ∙ sym (reach-on 1 1 at ∙ ap (λ (o : Reached). onFrom o (reach s 1)) (sym (size-reach at) ∙ ap past k))
+            two t mid k (run (number e 2 done) s mid) refl ∙ sym (reach-on 1 1 at ∙ ap (λ (o : Reached). further o (reach s 1)) (sym (size-reach at) ∙ ap past k))
+        one (fault x) k = ap past (sym (field-stops e s at x (sym k))) ∙ sym (reach-on 1 1 at ∙ ap (λ (o : Reached). further o (reach s 1)) (sym (size-reach at) ∙ ap past k))
 
     module _ (n at : ℕ) where
       sizes-reach : past (run (times n (size e)) s at) ≡ reach s n at

@@ -1,5 +1,5 @@
 -- Laws of marks and of zero-ended strings: when two runs of bytes are the same, when one stands at a place, and where a byte stands first.
-use Prim.Native.Nat.{ℕ, suc, _+_, _-_, _≤_, _<_}
+use Prim.Native.Nat.{ℕ, zero, suc, _+_, _-_, _≤_, _<_}
 use mathlib.Core.Bool.{Bool, true, false, _&&_}
 use mathlib.Core.List.{List, [], _∷_}
 use mathlib.Core.Path.{_≡_, refl, sym, ap}
@@ -69,13 +69,30 @@ module _ (c : ℕ) (l : List ℕ) (i : ℕ) where
   pub found-never : length l ≤ i → before c (drop i l) ≡ 0
   found-never h = rw (drop-of-length-le l h)
 
--- the place of the first, where there was none before i: it is here, or further on
-module _ (c : ℕ) (l : List ℕ) (place i : ℕ) (inv : place ≡ i + before c (drop i l)) (h : i < length l) where
-  pub place-here : getD l i 0 ≡ c → i ≡ place
-  place-here e = omega (arith, found-here c l i h e)
+-- the place k after i, as it is written where k is a numeral
+abbrev pub after : ℕ → ℕ → ℕ
+after i zero = i
+after i (suc k) = i + suc k
 
-  pub place-on : (getD l i 0 ≡ c → ⊥) → (j : ℕ) → j ≡ i + 1 → place ≡ j + before c (drop j l)
-  place-on e j q = rw q (omega (arith, found-later c l i h e))
+after-is : (i k : ℕ) → after i k ≡ i + k
+after-is i zero = omega arith
+after-is i (suc k) = refl
+
+-- none of the k bytes from i on is c
+abbrev pub Lacks : ℕ → List ℕ → ℕ → ℕ → Type 0
+Lacks c l i zero = Unit {0}
+Lacks c l i (suc k) = Lacks c l i k × (getD l (after i k) 0 ≡ c → ⊥)
+
+-- the place of the first, where there was none before i: none among k more, and one after those
+module _ (c : ℕ) (l : List ℕ) (place i : ℕ) (inv : place ≡ i + before c (drop i l)) where
+  pub place-past : (k : ℕ) → i + k ≤ length l → Lacks c l i k → place ≡ after i k + before c (drop (after i k) l)
+  place-past zero h n = inv
+  place-past (suc k) h n =
+      let j : i + suc k ≡ after i k + 1 = omega (arith, after-is i k) in
+      rw j (omega (arith, place-past k (omega arith) (n .0), found-later c l (after i k) (omega (arith, after-is i k)) (n .1)))
+
+  pub place-here : (k : ℕ) → i + k < length l → Lacks c l i k → getD l (after i k) 0 ≡ c → after i k ≡ place
+  place-here k h n e = omega (arith, place-past k (omega arith) n, found-here c l (after i k) (omega (arith, after-is i k)) e)
 
 pub before-le : (c : ℕ) (l : List ℕ) → before c l ≤ length l
 before-le c [] = omega arith

@@ -6,7 +6,7 @@ use borrow.Author.Needs.{needs}
 use denote.Ref.{now}
 use lib.ListN.{length, drop}
 use Rattle.primitive.specs.Reader as rules
-use Rattle.primitive.proofs.Marks.{place-here, place-on}
+use Rattle.primitive.proofs.Marks.{place-here, place-past}
 use Rattle.primitive.proofs.cursor.place_from.Statement.{statement}
 use Rattle.primitive.proofs.cursor.place_from.Tie as tie
 
@@ -27,11 +27,10 @@ shared-slice-read-if1 c = search needs
 
 returns : tie.Need-returns Inv-loop μ-loop
 returns c =
-    let s = now (c .before .before .before .before .before .args .s) in
-    let x = c .before .before .before .before .before .args .c in
+    let a = c .before .before .before .before .before .args in
     let l = c .before .before .before .loop in
     let h = c .before .before .loop-test .taken in
-    place-here x s _ (l .i) (l .inv .1) (omega arith) (c .if1 .taken)
+    place-here (a .c) (now (a .s)) _ (l .i) (l .inv .1) 0 (omega arith) tt (c .if1 .taken)
 
 add-if2 : tie.Need-add-if2 Inv-loop μ-loop
 add-if2 c = search needs
@@ -44,12 +43,10 @@ add-result c = search needs
 
 returns-2 : tie.Need-returns-2 Inv-loop μ-loop
 returns-2 c =
-    let s = now (c .before .before .before .before .before .before .before .args .s) in
-    let x = c .before .before .before .before .before .before .before .args .c in
+    let a = c .before .before .before .before .before .before .before .args in
     let l = c .before .before .before .before .before .loop in
     let h = c .before .before .before .before .loop-test .taken in
-    let i1 = place-on x s _ (l .i) (l .inv .1) (omega arith) (c .before .before .if1 .left) (l .i + 1) (omega arith) in
-    place-here x s _ (l .i + 1) i1 (omega arith) (c .if2 .taken)
+    place-here (a .c) (now (a .s)) _ (l .i) (l .inv .1) 1 (omega arith) (tt, c .before .before .if1 .left) (c .if2 .taken)
 
 add-if3 : tie.Need-add-if3 Inv-loop μ-loop
 add-if3 c = search needs
@@ -62,13 +59,10 @@ add-result-2 c = search needs
 
 returns-3 : tie.Need-returns-3 Inv-loop μ-loop
 returns-3 c =
-    let s = now (c .before .before .before .before .before .before .before .before .before .args .s) in
-    let x = c .before .before .before .before .before .before .before .before .before .args .c in
+    let a = c .before .before .before .before .before .before .before .before .before .args in
     let l = c .before .before .before .before .before .before .before .loop in
     let h = c .before .before .before .before .before .before .loop-test .taken in
-    let i1 = place-on x s _ (l .i) (l .inv .1) (omega arith) (c .before .before .before .before .if1 .left) (l .i + 1) (omega arith) in
-    let i2 = place-on x s _ (l .i + 1) i1 (omega arith) (c .before .before .if2 .left) (l .i + 2) (omega arith) in
-    place-here x s _ (l .i + 2) i2 (omega arith) (c .if3 .taken)
+    place-here (a .c) (now (a .s)) _ (l .i) (l .inv .1) 2 (omega arith) ((tt, c .before .before .before .before .if1 .left), c .before .before .if2 .left) (c .if3 .taken)
 
 add-if4 : tie.Need-add-if4 Inv-loop μ-loop
 add-if4 c = search needs
@@ -81,14 +75,10 @@ add-result-3 c = search needs
 
 returns-4 : tie.Need-returns-4 Inv-loop μ-loop
 returns-4 c =
-    let s = now (c .before .before .before .before .before .before .before .before .before .before .before .args .s) in
-    let x = c .before .before .before .before .before .before .before .before .before .before .before .args .c in
+    let a = c .before .before .before .before .before .before .before .before .before .before .before .args in
     let l = c .before .before .before .before .before .before .before .before .before .loop in
     let h = c .before .before .before .before .before .before .before .before .loop-test .taken in
-    let i1 = place-on x s _ (l .i) (l .inv .1) (omega arith) (c .before .before .before .before .before .before .if1 .left) (l .i + 1) (omega arith) in
-    let i2 = place-on x s _ (l .i + 1) i1 (omega arith) (c .before .before .before .before .if2 .left) (l .i + 2) (omega arith) in
-    let i3 = place-on x s _ (l .i + 2) i2 (omega arith) (c .before .before .if3 .left) (l .i + 3) (omega arith) in
-    place-here x s _ (l .i + 3) i3 (omega arith) (c .if4 .taken)
+    place-here (a .c) (now (a .s)) _ (l .i) (l .inv .1) 3 (omega arith) (((tt, c .before .before .before .before .before .before .if1 .left), c .before .before .before .before .if2 .left), c .before .before .if3 .left) (c .if4 .taken)
 
 add-if5 : tie.Need-add-if5 Inv-loop μ-loop
 add-if5 c = search needs
@@ -101,15 +91,10 @@ add-result-4 c = search needs
 
 returns-5 : tie.Need-returns-5 Inv-loop μ-loop
 returns-5 c =
-    let s = now (c .before .before .before .before .before .before .before .before .before .before .before .before .before .args .s) in
-    let x = c .before .before .before .before .before .before .before .before .before .before .before .before .before .args .c in
+    let a = c .before .before .before .before .before .before .before .before .before .before .before .before .before .args in
     let l = c .before .before .before .before .before .before .before .before .before .before .before .loop in
     let h = c .before .before .before .before .before .before .before .before .before .before .loop-test .taken in
-    let i1 = place-on x s _ (l .i) (l .inv .1) (omega arith) (c .before .before .before .before .before .before .before .before .if1 .left) (l .i + 1) (omega arith) in
-    let i2 = place-on x s _ (l .i + 1) i1 (omega arith) (c .before .before .before .before .before .before .if2 .left) (l .i + 2) (omega arith) in
-    let i3 = place-on x s _ (l .i + 2) i2 (omega arith) (c .before .before .before .before .if3 .left) (l .i + 3) (omega arith) in
-    let i4 = place-on x s _ (l .i + 3) i3 (omega arith) (c .before .before .if4 .left) (l .i + 4) (omega arith) in
-    place-here x s _ (l .i + 4) i4 (omega arith) (c .if5 .taken)
+    place-here (a .c) (now (a .s)) _ (l .i) (l .inv .1) 4 (omega arith) ((((tt, c .before .before .before .before .before .before .before .before .if1 .left), c .before .before .before .before .before .before .if2 .left), c .before .before .before .before .if3 .left), c .before .before .if4 .left) (c .if5 .taken)
 
 add-if6 : tie.Need-add-if6 Inv-loop μ-loop
 add-if6 c = search needs
@@ -122,16 +107,10 @@ add-result-5 c = search needs
 
 returns-6 : tie.Need-returns-6 Inv-loop μ-loop
 returns-6 c =
-    let s = now (c .before .before .before .before .before .before .before .before .before .before .before .before .before .before .before .args .s) in
-    let x = c .before .before .before .before .before .before .before .before .before .before .before .before .before .before .before .args .c in
+    let a = c .before .before .before .before .before .before .before .before .before .before .before .before .before .before .before .args in
     let l = c .before .before .before .before .before .before .before .before .before .before .before .before .before .loop in
     let h = c .before .before .before .before .before .before .before .before .before .before .before .before .loop-test .taken in
-    let i1 = place-on x s _ (l .i) (l .inv .1) (omega arith) (c .before .before .before .before .before .before .before .before .before .before .if1 .left) (l .i + 1) (omega arith) in
-    let i2 = place-on x s _ (l .i + 1) i1 (omega arith) (c .before .before .before .before .before .before .before .before .if2 .left) (l .i + 2) (omega arith) in
-    let i3 = place-on x s _ (l .i + 2) i2 (omega arith) (c .before .before .before .before .before .before .if3 .left) (l .i + 3) (omega arith) in
-    let i4 = place-on x s _ (l .i + 3) i3 (omega arith) (c .before .before .before .before .if4 .left) (l .i + 4) (omega arith) in
-    let i5 = place-on x s _ (l .i + 4) i4 (omega arith) (c .before .before .if5 .left) (l .i + 5) (omega arith) in
-    place-here x s _ (l .i + 5) i5 (omega arith) (c .if6 .taken)
+    place-here (a .c) (now (a .s)) _ (l .i) (l .inv .1) 5 (omega arith) (((((tt, c .before .before .before .before .before .before .before .before .before .before .if1 .left), c .before .before .before .before .before .before .before .before .if2 .left), c .before .before .before .before .before .before .if3 .left), c .before .before .before .before .if4 .left), c .before .before .if5 .left) (c .if6 .taken)
 
 add-if7 : tie.Need-add-if7 Inv-loop μ-loop
 add-if7 c = search needs
@@ -144,17 +123,10 @@ add-result-6 c = search needs
 
 returns-7 : tie.Need-returns-7 Inv-loop μ-loop
 returns-7 c =
-    let s = now (c .before .before .before .before .before .before .before .before .before .before .before .before .before .before .before .before .before .args .s) in
-    let x = c .before .before .before .before .before .before .before .before .before .before .before .before .before .before .before .before .before .args .c in
+    let a = c .before .before .before .before .before .before .before .before .before .before .before .before .before .before .before .before .before .args in
     let l = c .before .before .before .before .before .before .before .before .before .before .before .before .before .before .before .loop in
     let h = c .before .before .before .before .before .before .before .before .before .before .before .before .before .before .loop-test .taken in
-    let i1 = place-on x s _ (l .i) (l .inv .1) (omega arith) (c .before .before .before .before .before .before .before .before .before .before .before .before .if1 .left) (l .i + 1) (omega arith) in
-    let i2 = place-on x s _ (l .i + 1) i1 (omega arith) (c .before .before .before .before .before .before .before .before .before .before .if2 .left) (l .i + 2) (omega arith) in
-    let i3 = place-on x s _ (l .i + 2) i2 (omega arith) (c .before .before .before .before .before .before .before .before .if3 .left) (l .i + 3) (omega arith) in
-    let i4 = place-on x s _ (l .i + 3) i3 (omega arith) (c .before .before .before .before .before .before .if4 .left) (l .i + 4) (omega arith) in
-    let i5 = place-on x s _ (l .i + 4) i4 (omega arith) (c .before .before .before .before .if5 .left) (l .i + 5) (omega arith) in
-    let i6 = place-on x s _ (l .i + 5) i5 (omega arith) (c .before .before .if6 .left) (l .i + 6) (omega arith) in
-    place-here x s _ (l .i + 6) i6 (omega arith) (c .if7 .taken)
+    place-here (a .c) (now (a .s)) _ (l .i) (l .inv .1) 6 (omega arith) ((((((tt, c .before .before .before .before .before .before .before .before .before .before .before .before .if1 .left), c .before .before .before .before .before .before .before .before .before .before .if2 .left), c .before .before .before .before .before .before .before .before .if3 .left), c .before .before .before .before .before .before .if4 .left), c .before .before .before .before .if5 .left), c .before .before .if6 .left) (c .if7 .taken)
 
 add-if8 : tie.Need-add-if8 Inv-loop μ-loop
 add-if8 c = search needs
@@ -167,18 +139,10 @@ add-result-7 c = search needs
 
 returns-8 : tie.Need-returns-8 Inv-loop μ-loop
 returns-8 c =
-    let s = now (c .before .before .before .before .before .before .before .before .before .before .before .before .before .before .before .before .before .before .before .args .s) in
-    let x = c .before .before .before .before .before .before .before .before .before .before .before .before .before .before .before .before .before .before .before .args .c in
+    let a = c .before .before .before .before .before .before .before .before .before .before .before .before .before .before .before .before .before .before .before .args in
     let l = c .before .before .before .before .before .before .before .before .before .before .before .before .before .before .before .before .before .loop in
     let h = c .before .before .before .before .before .before .before .before .before .before .before .before .before .before .before .before .loop-test .taken in
-    let i1 = place-on x s _ (l .i) (l .inv .1) (omega arith) (c .before .before .before .before .before .before .before .before .before .before .before .before .before .before .if1 .left) (l .i + 1) (omega arith) in
-    let i2 = place-on x s _ (l .i + 1) i1 (omega arith) (c .before .before .before .before .before .before .before .before .before .before .before .before .if2 .left) (l .i + 2) (omega arith) in
-    let i3 = place-on x s _ (l .i + 2) i2 (omega arith) (c .before .before .before .before .before .before .before .before .before .before .if3 .left) (l .i + 3) (omega arith) in
-    let i4 = place-on x s _ (l .i + 3) i3 (omega arith) (c .before .before .before .before .before .before .before .before .if4 .left) (l .i + 4) (omega arith) in
-    let i5 = place-on x s _ (l .i + 4) i4 (omega arith) (c .before .before .before .before .before .before .if5 .left) (l .i + 5) (omega arith) in
-    let i6 = place-on x s _ (l .i + 5) i5 (omega arith) (c .before .before .before .before .if6 .left) (l .i + 6) (omega arith) in
-    let i7 = place-on x s _ (l .i + 6) i6 (omega arith) (c .before .before .if7 .left) (l .i + 7) (omega arith) in
-    place-here x s _ (l .i + 7) i7 (omega arith) (c .if8 .taken)
+    place-here (a .c) (now (a .s)) _ (l .i) (l .inv .1) 7 (omega arith) (((((((tt, c .before .before .before .before .before .before .before .before .before .before .before .before .before .before .if1 .left), c .before .before .before .before .before .before .before .before .before .before .before .before .if2 .left), c .before .before .before .before .before .before .before .before .before .before .if3 .left), c .before .before .before .before .before .before .before .before .if4 .left), c .before .before .before .before .before .before .if5 .left), c .before .before .before .before .if6 .left), c .before .before .if7 .left) (c .if8 .taken)
 
 add-i : tie.Need-add-i Inv-loop μ-loop
 add-i c = search needs
@@ -188,19 +152,10 @@ loop-less c = search needs
 
 loop-again : tie.Need-loop-again Inv-loop μ-loop
 loop-again c =
-    let s = now (c .before .before .before .before .before .before .before .before .before .before .before .before .before .before .before .before .before .before .before .args .s) in
-    let x = c .before .before .before .before .before .before .before .before .before .before .before .before .before .before .before .before .before .before .before .args .c in
+    let a = c .before .before .before .before .before .before .before .before .before .before .before .before .before .before .before .before .before .before .before .args in
     let l = c .before .before .before .before .before .before .before .before .before .before .before .before .before .before .before .before .before .loop in
     let h = c .before .before .before .before .before .before .before .before .before .before .before .before .before .before .before .before .loop-test .taken in
-    let i1 = place-on x s _ (l .i) (l .inv .1) (omega arith) (c .before .before .before .before .before .before .before .before .before .before .before .before .before .before .if1 .left) (l .i + 1) (omega arith) in
-    let i2 = place-on x s _ (l .i + 1) i1 (omega arith) (c .before .before .before .before .before .before .before .before .before .before .before .before .if2 .left) (l .i + 2) (omega arith) in
-    let i3 = place-on x s _ (l .i + 2) i2 (omega arith) (c .before .before .before .before .before .before .before .before .before .before .if3 .left) (l .i + 3) (omega arith) in
-    let i4 = place-on x s _ (l .i + 3) i3 (omega arith) (c .before .before .before .before .before .before .before .before .if4 .left) (l .i + 4) (omega arith) in
-    let i5 = place-on x s _ (l .i + 4) i4 (omega arith) (c .before .before .before .before .before .before .if5 .left) (l .i + 5) (omega arith) in
-    let i6 = place-on x s _ (l .i + 5) i5 (omega arith) (c .before .before .before .before .if6 .left) (l .i + 6) (omega arith) in
-    let i7 = place-on x s _ (l .i + 6) i6 (omega arith) (c .before .before .if7 .left) (l .i + 7) (omega arith) in
-    let i8 = place-on x s _ (l .i + 7) i7 (omega arith) (c .if8 .left) (l .i + 8) (omega arith) in
-    (omega arith, i8)
+    (omega arith, place-past (a .c) (now (a .s)) _ (l .i) (l .inv .1) 8 (omega arith) ((((((((tt, c .before .before .before .before .before .before .before .before .before .before .before .before .before .before .if1 .left), c .before .before .before .before .before .before .before .before .before .before .before .before .if2 .left), c .before .before .before .before .before .before .before .before .before .before .if3 .left), c .before .before .before .before .before .before .before .before .if4 .left), c .before .before .before .before .before .before .if5 .left), c .before .before .before .before .if6 .left), c .before .before .if7 .left), c .if8 .left))
 
 place-by-bytes-requires : tie.Need-place-by-bytes-requires Inv-loop μ-loop
 place-by-bytes-requires c κs = search needs
