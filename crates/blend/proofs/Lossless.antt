@@ -1,14 +1,15 @@
 -- The papers and the outcomes of the answers lose nothing: two answers that are told alike are the same answer.
 use Prim.Native.Nat.{ℕ}
 use mathlib.Core.List.{List, [], _∷_, _++_}
-use mathlib.Core.Path.{_≡_, refl, _∙_, ap}
+use mathlib.Core.Path.{_≡_, refl, sym, _∙_, ap}
 use lib.ListN.{getD}
 use Rattle.primitive.specs.declared.Endianness.{Endianness}
 use Rattle.primitive.specs.declared.Endianness.the-variants.{Little, Big}
 use Rattle.primitive.specs.declared.Fault.{Fault}
 use Rattle.primitive.specs.declared.PointerSize.{PointerSize}
 use Rattle.primitive.specs.declared.PointerSize.the-variants.{Bits32, Bits64}
-use Rattle.primitive.specs.Paper.Paper.{accepts, refuses}
+use Rattle.primitive.specs.Paper.{Paper}
+use Rattle.primitive.specs.Paper.Paper.{accepts, integer, real, refuses}
 use Rattle.primitive.specs.PointerSize.{pointerBytes}
 use Rattle.primitive.specs.Reader.{Outcome}
 use Rattle.primitive.specs.Reader.Outcome.{read, fault}
@@ -19,6 +20,7 @@ use Rattle.dna.specs.declared.dna.DnaCounts.{DnaCounts}
 use Rattle.blend.specs.declared.FileFormat.{FileFormat}
 use Rattle.blend.specs.declared.FileFormat.the-variants.{Legacy, New}
 use Rattle.blend.specs.declared.Header.{Header}
+use Rattle.blend.specs.declared.Kind.{Kind}
 use Rattle.blend.specs.declared.Row.{Row}
 use Rattle.blend.specs.declared.blend.PointerSizeRead.{PointerSizeRead}
 use Rattle.blend.specs.declared.blend.EndiannessRead.{EndiannessRead}
@@ -28,6 +30,7 @@ use Rattle.blend.specs.declared.blend.RawBlend.{RawBlend}
 use Rattle.blend.specs.declared.blend.BlendAnswer.{BlendAnswer}
 use Rattle.blend.specs.declared.walker.Step.{Step}
 use Rattle.blend.specs.Header.{pointerSizeRead, endiannessRead, versionRead, edition, order, headerNumbers, headerAs, paperHeader}
+use Rattle.blend.specs.Blocks.{paperKind}
 use Rattle.blend.specs.Chain.{rowNumbers, countNumbers, paperBlend}
 use Rattle.blend.specs.Walker.{paperStep, placeOf}
 
@@ -70,6 +73,26 @@ wholeRow r q e =
     ap
     (λ (l : List ℕ).
     record { code = getD l 0 0; address = getD l 1 0; index = getD l 2 0; count = getD l 3 0; at = getD l 4 0; payload = getD l 5 0; len = getD l 6 0 }) e
+
+-- a kind by its number
+kindTold : Paper → Kind
+kindTold (accepts n vs) = getD (Kind.Rend ∷ Kind.Test ∷ Kind.Global ∷ Kind.Subsidiary ∷ Kind.Principal ∷ Kind.Dna ∷ []) n Kind.Unknown
+kindTold (integer z) = Kind.Unknown
+kindTold (real x) = Kind.Unknown
+kindTold (refuses n vs) = Kind.Unknown
+
+kind-back : (k : Kind) → kindTold (paperKind k) ≡ k
+unfolding kindTold
+kind-back Kind.Rend = refl
+kind-back Kind.Test = refl
+kind-back Kind.Global = refl
+kind-back Kind.Subsidiary = refl
+kind-back Kind.Principal = refl
+kind-back Kind.Dna = refl
+kind-back Kind.Unknown = refl
+
+pub wholeKind : (a b : Kind) → paperKind a ≡ paperKind b → a ≡ b
+wholeKind a b e = sym (kind-back a) ∙ ap kindTold e ∙ kind-back b
 
 -- what the reads of a header's parts answer
 pub wholePointerSize : (a b : PointerSizeRead) → pointerSizeRead a ≡ pointerSizeRead b → a ≡ b

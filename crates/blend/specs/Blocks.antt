@@ -13,6 +13,8 @@ use Rattle.primitive.specs.declared.PointerSize.the-variants.{Bits32, Bits64}
 use Rattle.primitive.specs.declared.Fault.the-variants.{Cut, Mark, Refusal}
 use Rattle.primitive.specs.Ascii.{ascii}
 use Rattle.primitive.specs.Number.{spelled, number}
+use Rattle.primitive.specs.Paper.{Paper}
+use Rattle.primitive.specs.Paper.Paper.{accepts}
 use Rattle.primitive.specs.PointerSize.{pointerBytes}
 use Rattle.primitive.specs.Reader.{Reader, Outcome, run, then, stands}
 use Rattle.primitive.specs.Reader.Reader.{done, refuse, skip}
@@ -107,6 +109,16 @@ kindOf n =
         ]
       ]
     ]
+
+-- The kinds on paper: 0 REND, 1 TEST, 2 GLOB, 3 DATA, 4 Principal, 5 DNA1, and 6 for a number that is no block code.
+abbrev pub paperKind : Kind → Paper
+paperKind Kind.Rend = accepts 0 []
+paperKind Kind.Test = accepts 1 []
+paperKind Kind.Global = accepts 2 []
+paperKind Kind.Subsidiary = accepts 3 []
+paperKind Kind.Principal = accepts 4 []
+paperKind Kind.Dna = accepts 5 []
+paperKind Kind.Unknown = accepts 6 []
 
 -- the code's test: of a Principal the count must be 1 (4); anything that is no block code is 5
 abbrev pub taken : Kind → ℕ → Reader (Unit {0})

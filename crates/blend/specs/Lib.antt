@@ -4,3 +4,4 @@ pub mod Blocks
 pub mod Chain
 pub mod Walker
 pub mod Helpers
+pub mod Calls

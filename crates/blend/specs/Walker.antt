@@ -1,8 +1,9 @@
--- Walker: one step from any place in any file. proofs/Walks.antt: its steps from the start give the reader's rows, one after another, and then the
--- reader's end or refusal (6 included, 7 never), again and again.
+-- Walker: one step from any place in any file, and a walk of such steps. proofs/Walks.antt: a walk from the start gives the reader's rows, one after another,
+-- and then the reader's end or refusal (6 included, 7 never).
 use Prim.Native.Nat.{ℕ, _+_}
 use mathlib.Core.Bool.{Bool, true, false}
 use mathlib.Core.List.{List, [], _∷_}
+use mathlib.Core.Path.{_≡_}
 use lib.Dec.{ltb}
 use lib.ListN.{length}
 use Rattle.primitive.specs.Paper.{Paper}
@@ -11,6 +12,7 @@ use Rattle.primitive.specs.Reader.{Reader, Outcome, run}
 use Rattle.primitive.specs.Reader.Outcome.{read, fault}
 use Rattle.primitive.specs.Refusals.{noDnaBlockFound, notThere, paperFault}
 use Rattle.blend.specs.declared.Header.{Header}
+use Rattle.blend.specs.declared.Row.{Row}
 use Rattle.blend.specs.declared.blend.Last.{Last}
 use Rattle.blend.specs.declared.blend.Boundary.{Boundary}
 use Rattle.blend.specs.declared.walker.Place.{Place}
@@ -67,6 +69,24 @@ placeOf (Step.Block r p) = p
 placeOf (Step.End at p) = p
 placeOf (Step.Refused n p) = p
 
+-- what a step answers, and the place that it hands back
+abbrev pub Stepped : Reader HeaderBytes → List ℕ → Place → Step → Type 0
+Stepped header s p r = (paperStep r ≡ stepBy header s p .answer) × (placeOf r ≡ stepBy header s p .place)
+
 -- where a walk starts
 abbrev pub start : Place
 start = record { at = 0; dna = false }
+
+-- How a walk stops: at the end mark, with the offset after it, or with the number of a refusal. The step that stops hands its own place back.
+pub data Stop : Type 0 where
+  ended : ℕ → Stop
+  refused : ℕ → Stop
+
+abbrev pub stopped : Stop → Place → Step
+stopped (ended next) p = Step.End next p
+stopped (refused n) p = Step.Refused n p
+
+-- A walk from a place: these rows, one after another, and then the stop, which is answered again whenever it is asked again.
+abbrev pub Walk : (Place → Step → Type 0) → Place → List Row → Stop → Type 0
+Walk step p [] stop = step p (stopped stop p)
+Walk step p (r ∷ rs) stop = (q : Place) × step p (Step.Block r q) × Walk step q rs stop

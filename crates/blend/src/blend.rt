@@ -22,12 +22,11 @@ use primitive::primitive::ValueU64;
 use primitive::primitive::parse_u32;
 use primitive::primitive::parse_u64;
 ghost use mathlib.Core.Path.{_≡_};
-ghost use mathlib.Core.List.{List, [], _∷_};
-ghost use Prim.Native.Nat.{ℕ, _+_, _*_, _/_, _^_, _≤_, _<_};
-ghost use lib.ListN.{length, take, drop};
+ghost use mathlib.Core.List.{List, []};
+ghost use Prim.Native.Nat.{ℕ, _+_, _/_, _^_, _≤_, _<_};
+ghost use lib.ListN.{length};
 ghost use Rattle.primitive.specs.Reader.{run};
 ghost use Rattle.primitive.specs.Reader.Reader.{done, bytes};
-ghost use Rattle.primitive.specs.Number as numbers;
 ghost use Rattle.primitive.specs.Cursor.{widthOf, numbered};
 ghost use Rattle.primitive.specs.Helpers.{numberAt, put, Placed};
 ghost use Rattle.primitive.specs.PointerSize.{pointerBytes};
@@ -39,6 +38,7 @@ ghost use Rattle.blend.specs.Chain as chains;
 ghost use Rattle.primitive.specs.Tables.{written};
 ghost use Rattle.blend.specs.Helpers as helpers;
 ghost use Rattle.blend.specs.Helpers.{headerRead, newOrder, otherWidth, otherOrder, four, headerAt, withAddress, blockHeaderRead, taking, rowRead, memoryAddress, summed, summedAs, rowsFrom};
+ghost use Rattle.blend.specs.Calls as calls;
 
 // What a mark stands for, or a version, or a header, and the place after it.
 pub enum PointerSizeRead {
@@ -68,7 +68,7 @@ pub enum HeaderAnswer {
 }
 
 pub fn pointer_size(c: Cursor, s: &[u8]) -> PointerSizeRead
-    ensures { λ r. ⌜ headers.pointerSizeRead r ≡ run (headers.pointerMark done) (now (s .entry)) (c .at) ⌝ }
+    ensures { λ r. ⌜ calls.«blend::pointer_size» c (now (s .entry)) r ⌝ }
 {
     let short = c.begins(s, b"_");
     if short.there {
@@ -82,7 +82,7 @@ pub fn pointer_size(c: Cursor, s: &[u8]) -> PointerSizeRead
 }
 
 pub fn endianness(c: Cursor, s: &[u8]) -> EndiannessRead
-    ensures { λ r. ⌜ headers.endiannessRead r ≡ run (headers.orderMark done) (now (s .entry)) (c .at) ⌝ }
+    ensures { λ r. ⌜ calls.«blend::endianness» c (now (s .entry)) r ⌝ }
 {
     let little = c.begins(s, b"v");
     if little.there {
@@ -107,7 +107,7 @@ fn version_bytes(c: Cursor, s: &[u8], n: usize) -> VersionRead
 }
 
 pub fn version(c: Cursor, s: &[u8]) -> VersionRead
-    ensures { λ r. ⌜ headers.versionRead r ≡ run (bytes 3 (λ v. done (headers.versionOf v))) (now (s .entry)) (c .at) ⌝ }
+    ensures { λ r. ⌜ calls.«blend::version» c (now (s .entry)) r ⌝ }
 {
     version_bytes(c, s, 3)
 }
@@ -196,7 +196,7 @@ pub(crate) fn number_of(f: Fault) -> u64
 }
 
 pub fn header(file: &[u8]) -> HeaderAnswer
-    ensures { λ r. ⌜ headers.paperHeader r ≡ headers.headerAs (headers.valued (run headers.headerBytes (now (file .entry)) 0)) ⌝ }
+    ensures { λ r. ⌜ calls.«blend::header» (now (file .entry)) r ⌝ }
 {
     match header_in(file) {
         HeaderRead::Is(h, c) => HeaderAnswer::Is(h, c.at),
@@ -206,7 +206,7 @@ pub fn header(file: &[u8]) -> HeaderAnswer
 
 // The number of a header's refusal, 0 where it is none.
 pub fn refusal_of(answer: HeaderAnswer) -> u64
-    ensures { λ r. ⌜ r ≡ headers.refusalOf answer ⌝ }
+    ensures { λ r. ⌜ calls.«blend::refusal_of» answer r ⌝ }
 {
     match answer {
         HeaderAnswer::Is(_, _) => 0,
@@ -216,7 +216,7 @@ pub fn refusal_of(answer: HeaderAnswer) -> u64
 
 // A block's code as its number, the first byte most significant.
 pub fn block_header_code(c: Cursor, s: &[u8]) -> Numbered
-    ensures { λ r. ⌜ numbered r ≡ run (numbers.number Endianness.Big 4 done) (now (s .entry)) (c .at) ⌝ }
+    ensures { λ r. ⌜ calls.«blend::block_header_code» c (now (s .entry)) r ⌝ }
 {
     c.number(s, Width::Four, Endianness::Big)
 }
@@ -719,8 +719,7 @@ fn read_after(file: &[u8], h: Header, from: usize, table: &mut [u64]) -> BlendAn
 
 // Reads a file into a row table.
 pub fn blend(file: &[u8], table: &mut [u64]) -> BlendAnswer
-    ensures { λ r. ⌜ chains.paperBlend r ≡ chains.readAs (chains.fileBy headers.headerBytes (now (file .entry))) (length (now (table .entry)) / chains.perRow) ⌝ }
-    ensures { λ _. ⌜ now (table .exit) ≡ chains.tableAfter (chains.fileBy headers.headerBytes (now (file .entry))) (now (table .entry)) ⌝ }
+    ensures { λ r. ⌜ calls.«blend::blend» (now (file .entry)) (now (table .entry)) r (now (table .exit)) ⌝ }
 {
     let answer = header(file);
     let HeaderAnswer::Is(h, from) = answer else {

@@ -5,11 +5,11 @@ pub mod walker;
 use primitive::Endianness;
 use primitive::PointerSize;
 ghost use mathlib.Core.Path.{_≡_};
-ghost use Prim.Native.Nat.{_+_, _≤_, _<_};
+ghost use Prim.Native.Nat.{_≤_, _<_};
 ghost use lib.ListN.{length};
 ghost use mathlib.Core.List.{[], _∷_};
 ghost use Rattle.blend.specs.Header as headers;
-ghost use Rattle.blend.specs.Blocks.{blockHeaderLength, kindOf};
+ghost use Rattle.blend.specs.Calls as calls;
 
 /// The on-disk layout of a blend file.
 pub enum FileFormat {
@@ -33,7 +33,7 @@ impl FileFormat {
 
     /// Returns the length of the file header in bytes.
     pub fn header_len(self) -> usize
-        ensures { λ r. ⌜ r ≡ headers.headerLength self ⌝ }
+        ensures { λ r. ⌜ calls.«FileFormat::header_len» self r ⌝ }
         ensures constants { λ _. do ⌜ ((← ⟦FileFormat::LEGACY_HEADER⟧ .entry) ≡ 12) × ((← ⟦FileFormat::NEW_HEADER⟧ .entry) ≡ 17) ⌝ }
     {
         match self {
@@ -44,7 +44,7 @@ impl FileFormat {
 
     /// Returns the length of a block header in bytes: 20, 24, 28 or 32.
     pub fn block_header_len(self, pointer_size: PointerSize) -> usize
-        ensures { λ r. ⌜ r ≡ blockHeaderLength self «pointer_size» ⌝ }
+        ensures { λ r. ⌜ calls.«FileFormat::block_header_len» self «pointer_size» r ⌝ }
         ensures constants { λ _. do ⌜ ((← ⟦FileFormat::LEGACY_BLOCK⟧ .entry) ≡ 16) × ((← ⟦FileFormat::NEW_BLOCK⟧ .entry) ≡ 24) ⌝ }
     {
         match self {
@@ -111,7 +111,7 @@ impl Header {
         version: Version,
         format: FileFormat,
     ) -> Self
-        ensures { λ r. ⌜ r ≡ record { «pointer_size» = «pointer_size»; endianness = endianness; version = version; format = format } ⌝ }
+        ensures { λ r. ⌜ calls.«Header::new» «pointer_size» endianness version format r ⌝ }
     {
         Header {
             pointer_size,
@@ -133,7 +133,7 @@ pub struct BlockHeader {
 
 impl BlockHeader {
     pub fn new(code: u64, size: u64, address: u64, index: u64, count: u64) -> Self
-        ensures { λ r. ⌜ r ≡ record { code = code; size = size; address = address; index = index; count = count } ⌝ }
+        ensures { λ r. ⌜ calls.«BlockHeader::new» code size address index count r ⌝ }
     {
         BlockHeader {
             code,
@@ -159,7 +159,7 @@ pub enum Kind {
 impl Kind {
     // Which kind a code's number is, its first byte most significant.
     pub fn of_code(code: u64) -> Self
-        ensures { λ r. ⌜ r ≡ kindOf code ⌝ }
+        ensures { λ r. ⌜ calls.«Kind::of_code» code r ⌝ }
     {
         if code == 0x5245_4e44 {
             return Kind::Rend;

@@ -8,8 +8,8 @@ use crate::blend::header;
 use crate::blend::number_of;
 use crate::blend::refusal_of;
 ghost use mathlib.Core.Path.{_≡_};
-ghost use Rattle.blend.specs.Header.{headerBytes};
 ghost use Rattle.blend.specs.Walker as rules;
+ghost use Rattle.blend.specs.Calls as calls;
 
 // A boundary, and whether the block before it is a DNA1.
 pub struct Place {
@@ -38,7 +38,7 @@ fn last_is_dna(last: Last) -> bool
 impl Place {
     // Where a walk starts.
     pub fn start() -> Self
-        ensures { λ r. ⌜ r ≡ rules.start ⌝ }
+        ensures { λ r. ⌜ calls.«walker::Place::start» r ⌝ }
     {
         Place { at: 0, dna: false }
     }
@@ -58,8 +58,7 @@ impl Place {
     }
 
     pub fn step(self, file: &[u8]) -> Step
-        ensures { λ r. ⌜ rules.paperStep r ≡ rules.stepBy headerBytes (now (file .entry)) self .answer ⌝ }
-        ensures { λ r. ⌜ rules.placeOf r ≡ rules.stepBy headerBytes (now (file .entry)) self .place ⌝ }
+        ensures { λ r. ⌜ calls.«walker::Place::step» self (now (file .entry)) r ⌝ }
     {
         if file.len() < self.at {
             return Step::Refused(13, self);

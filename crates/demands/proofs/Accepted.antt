@@ -36,7 +36,7 @@ pub record Accepted (o : Outcome File) (t t′ : List ℕ) (b : RawBlend) : Type
   pub answer : b ≡ answerOf file (b .dna) (b .end)
   pub fits : length (file .chain .rows) ≤ length t / perRow
   pub table : t′ ≡ over (rowTable (file .chain .rows)) t
-  pub rows : rowsIn t′ b ≡ file .chain .rows
+  pub rows : rowsIn t′ (b .rows) ≡ file .chain .rows
 
 no-fault : (b : RawBlend) (x : Fault) → paperBlend (BlendAnswer.Is b) ≡ paperFault x → ⊥
 no-fault b (Cut n) e =

@@ -13,6 +13,7 @@ use Rattle.blend.specs.declared.Header.{Header}
 use Rattle.blend.specs.declared.Row.{Row}
 use Rattle.blend.specs.declared.blend.Last.{Last}
 use Rattle.blend.specs.declared.blend.RawBlend.{RawBlend}
+use Rattle.blend.specs.declared.blend.BlendAnswer.{BlendAnswer}
 use Rattle.blend.specs.Chain.{File, fileBy}
 use Rattle.blend.specs.Header.{HeaderBytes, headerLength, headerBytes, valued}
 use Rattle.demands.specs.Answers.{HeaderTree, rowsIn}
@@ -25,7 +26,7 @@ use Rattle.demands.proofs.Links.{linked-ends}
 
 module _ (header : Reader HeaderBytes) (tree : HeaderTree header) where
   -- of a file that the rules read
-  covered : (s : List ℕ) (f : File) (first : ℕ) (n : DnaCounts) (end : ℕ) → fileBy header s ≡ read f first → f .chain .last ≡ read n end
+  pub covered : (s : List ℕ) (f : File) (first : ℕ) (n : DnaCounts) (end : ℕ) → fileBy header s ≡ read f first → f .chain .last ≡ read n end
       → Covered header s (f .header) (f .chain .rows) end
   covered s f first n end e l =
       let h = f .header in
@@ -44,11 +45,13 @@ module _ (header : Reader HeaderBytes) (tree : HeaderTree header) where
       }
 
   of-answer : Cover header (fileBy header)
-  of-answer s t t′ b w =
+  of-answer s t t′ (BlendAnswer.Is b) w =
       let a = accepted (fileBy header s) t t′ b (w .0) (w .1) in
       let c = covered s (a .file) (a .first) (b .dna) (b .end) (a .found) (a .last) in
       let d = subst (λ (rows : List Row). Covered header s (a .file .header) rows (b .end)) (sym (a .rows)) c in
-      subst (λ (h : Header). Covered header s h (rowsIn t′ b) (b .end)) (sym (ap (λ (x : RawBlend). x .header) (a .answer))) d
+      subst (λ (h : Header). Covered header s h (rowsIn t′ (b .rows)) (b .end)) (sym (ap (λ (x : RawBlend). x .header) (a .answer))) d
+  of-answer s t t′ (BlendAnswer.Refused n) w = tt
+  of-answer s t t′ (BlendAnswer.TableTooShort n) w = tt
 
 pub cover : EveryBlockBy
 cover = of-answer

@@ -1,29 +1,62 @@
 -- Document 01's P examples, computed of the rules; and a scene to which the demands apply, with copies of it that were changed.
-use mathlib.Core.List.{[], _∷_}
-use mathlib.Core.Path.{_≡_, refl}
+use Prim.Native.Nat.{ℕ}
+use mathlib.Core.List.{List, [], _∷_}
+use mathlib.Core.Path.{_≡_, refl, _∙_, ap}
 use native.Mathlib.Omega.{arith}
+use lib.ListN.{replicate}
+use Rattle.primitive.specs.declared.Endianness.{Endianness}
+use Rattle.primitive.specs.declared.Endianness.the-variants.{Little, Big}
+use Rattle.primitive.specs.declared.PointerSize.{PointerSize}
+use Rattle.primitive.specs.declared.PointerSize.the-variants.{Bits32, Bits64}
 use Rattle.primitive.specs.Ascii.{ascii}
 use Rattle.primitive.specs.Paper.Paper.{refuses}
 use Rattle.primitive.specs.Reader.{run, then, times}
+use Rattle.primitive.specs.Reader.Outcome.{read}
 use Rattle.dna.specs.Catalogue.{catalogue, listed, strings, sized, struct, structured, fieldCount}
 use Rattle.field.specs.Declarators.{isFunction, taken, groups, spanned, digits, decimal, numbers, product, pointerOrValue, declared}
+use Rattle.blend.specs.declared.Header.{Header}
+use Rattle.blend.specs.declared.blend.HeaderAnswer.{HeaderAnswer}
 use Rattle.blend.specs.declared.blend.BlendAnswer.{BlendAnswer}
 use Rattle.blend.specs.Blocks.{fields, blockHeader, kindOf, block, rowAt, finished, boundaryOf}
 use Rattle.blend.specs.Chain.{chain, chainFrom, fileBy, readAs, rowTable}
-use Rattle.blend.specs.Header.{decimal as versionDecimal, legacy, new, headerBytes}
+use Rattle.blend.specs.Header.{decimal as versionDecimal, legacy, new, headerBytes, valued, headerAs}
+use Rattle.blend.proofs.Lossless.{wholeHeader}
 use Rattle.held.specs.Held.{rowsSpelt}
-use Rattle.demands.specs.Answers.{Answers, rowsIn}
+use Rattle.blend.specs.declared.FileFormat.{FileFormat}
+use Rattle.blend.specs.declared.FileFormat.the-variants.{Legacy, New}
+use Rattle.blend.specs.Calls.{Answers, «blend::header», «blend::blend»}
+use Rattle.demands.specs.Answers.{rowsIn}
 use Rattle.demands.specs.Cover.{Covered}
-use Rattle.demands.specs.Examples.{AtTheEdges, scene, sound, changed, answer, before, after, ScenesAreRead}
+use Rattle.demands.specs.Examples.{AtTheEdges, scene, sound, changed, answer, before, after, sceneIn, answerIn, tableIn, ScenesAreRead}
 use Rattle.runtime.specs.Views.{partAs}
 use Rattle.demands.specs.Unaltered.{agree, Alike, Untouched, Stays}
 use Rattle.demands.proofs.Cover.{every-block}
 use Rattle.demands.proofs.Unaltered.{no-other-object, agree-near, agree-alike}
 
+of-header : (s : List ℕ) (h : Header) (at : ℕ) → valued (run headerBytes s 0) ≡ read h at → (r : HeaderAnswer) → «blend::header» s r → r ≡ HeaderAnswer.Is h at
+of-header s h at e r w = wholeHeader r (HeaderAnswer.Is h at) (w ∙ ap headerAs e)
+
+in-legacy : Header
+in-legacy = record { «pointer_size» = Bits64; endianness = Little; version = record { major = 0; minor = 20 }; format = Legacy }
+
+in-new : Header
+in-new = record { «pointer_size» = Bits64; endianness = Little; version = record { major = 5; minor = 1 }; format = New }
+
 pub at-the-edges : AtTheEdges
-unfolding run then headerBytes legacy new versionDecimal chainFrom chain boundaryOf rowAt block blockHeader fields kindOf finished readAs declared pointerOrValue isFunction groups taken spanned numbers decimal digits product
-at-the-edges =
-    (λ room. refl, (λ room. refl, (refl, (refl, (λ room. refl, ((refl, refl), ((refl, refl), ((refl, refl), ((refl, refl), ((refl, refl), ((refl, refl), ((refl, refl), tt))))))))))))
+unfolding run then headerBytes legacy new versionDecimal chainFrom chain boundaryOf rowAt block blockHeader fields kindOf finished readAs declared pointerOrValue isFunction groups taken spanned numbers decimal digits product in-legacy in-new
+at-the-edges = (
+  λ t t′ r w. w .0,
+  (
+    λ t t′ r w. w .0,
+    (
+      λ r w. (in-new, 17, of-header (ascii "BLENDER17-01v0501") in-new 17 refl r w, refl),
+      (
+        λ r w. (in-legacy, 12, of-header (ascii "BLENDER-v2x0") in-legacy 12 refl r w, refl),
+        (λ t t′ r w. w .0, (λ r t′ w. w, (λ r t′ w. w, (λ r t′ w. w, (λ r t′ w. w, (λ r t′ w. w, (λ r t′ w. w, (λ r t′ w. w, tt)))))))),
+      ),
+    ),
+  ),
+)
 
 -- both are read, with the same answer and the same table
 pub read-sound : Answers (fileBy headerBytes) sound before (BlendAnswer.Is answer) after
@@ -34,16 +67,27 @@ pub read-changed : Answers (fileBy headerBytes) changed before (BlendAnswer.Is a
 unfolding run then times headerBytes legacy new versionDecimal chainFrom chain boundaryOf rowAt block blockHeader fields kindOf finished catalogue listed strings sized structured struct fieldCount readAs rowTable scene
 read-changed = (refl, refl)
 
+in-forms : (f : FileFormat) (p : PointerSize) (e : Endianness) → «blend::blend» (sceneIn f p e) (replicate 14 9) (BlendAnswer.Is (answerIn f p e)) (tableIn f p)
+unfolding run then times headerBytes legacy new versionDecimal chainFrom chain boundaryOf rowAt block blockHeader fields kindOf finished catalogue listed strings sized structured struct fieldCount readAs rowTable sceneIn
+in-forms Legacy Bits32 Little = (refl, refl)
+in-forms Legacy Bits32 Big = (refl, refl)
+in-forms Legacy Bits64 Little = (refl, refl)
+in-forms Legacy Bits64 Big = (refl, refl)
+in-forms New Bits32 Little = (refl, refl)
+in-forms New Bits32 Big = (refl, refl)
+in-forms New Bits64 Little = (refl, refl)
+in-forms New Bits64 Big = (refl, refl)
+
 pub scenes-are-read : ScenesAreRead
-scenes-are-read = (read-sound, read-changed)
+scenes-are-read = record { of-sound = read-sound; of-changed = read-changed; of-forms = in-forms }
 
 -- they are alike but in the first object's payload, so the second demand applies; the first does to both
-pub alike : Alike (rowsIn after answer) 148 sound changed
+pub alike : Alike (rowsIn after (answer .rows)) 148 sound changed
 unfolding scene agree rowsSpelt
-alike = agree-alike (rowsIn after answer) 148 sound changed (omega arith) refl
+alike = agree-alike (rowsIn after (answer .rows)) 148 sound changed (omega arith) refl
 
-pub stays : Stays sound before after answer changed before after (BlendAnswer.Is answer)
-stays = no-other-object sound before after answer read-sound changed before after (BlendAnswer.Is answer) read-changed refl alike
+pub stays : Stays sound before after 3 Little changed before after
+stays = no-other-object sound before after (BlendAnswer.Is answer) read-sound changed before after (BlendAnswer.Is answer) read-changed refl alike .1
 
 -- the second object's payload shows the same bytes by its view, and the first one's does not
 untouched : Untouched sound changed 64 68
@@ -57,8 +101,8 @@ pub touched : (partAs sound after 0 ≡ ascii "hull") × (partAs changed after 0
 unfolding scene partAs
 touched = (refl, refl)
 
-pub covered : Covered headerBytes sound (answer .header) (rowsIn after answer) 148
-covered = every-block sound before after answer read-sound
+pub covered : Covered headerBytes sound (answer .header) (rowsIn after (answer .rows)) 148
+covered = every-block sound before after (BlendAnswer.Is answer) read-sound
 
 -- A byte of the DNA1's payload is another matter: with a mark of its catalogue changed the file is refused.
 pub dna-matters : readAs (fileBy headerBytes (scene (ascii "hull") (ascii "hull") (ascii "TYPO") [])) 3 ≡ refuses 2 []

@@ -9,7 +9,8 @@ pub mod Files
 pub mod Cover
 pub mod Kept
 pub mod Unaltered
-pub mod OneOutcome
-pub mod Refused
+pub mod Exported
+pub mod Walked
+pub mod Sentences
 pub mod Examples
 pub mod Wrong

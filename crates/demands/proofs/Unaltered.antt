@@ -23,6 +23,7 @@ use Rattle.blend.specs.declared.blend.Last.{Last}
 use Rattle.blend.specs.declared.blend.RawBlend.{RawBlend}
 use Rattle.blend.specs.declared.blend.BlendAnswer.{BlendAnswer}
 use Rattle.blend.specs.Blocks.{codeNumber, kindOf, isDna, payloadOf}
+use Rattle.blend.specs.Calls.{Answers}
 use Rattle.blend.specs.Chain.{Chain, File, chain, chainFrom, onHeader, fileBy, perRow, rowTable, readAs, tableAfter}
 use Rattle.blend.specs.Header.{HeaderBytes, headerBytes, valued}
 use Rattle.runtime.specs.Views.{cell, isThere, viewAs, partAs}
@@ -30,7 +31,7 @@ use Rattle.blend.proofs.Chains.{table-length, block-lies}
 use Rattle.blend.proofs.Lossless.{wholeBlend}
 use Rattle.held.specs.Held.{none, rowSpelt}
 use Rattle.held.proofs.Same.{row-at}
-use Rattle.demands.specs.Answers.{Answers, HeaderTree, rowsIn}
+use Rattle.demands.specs.Answers.{HeaderTree, rowsIn}
 use Rattle.demands.specs.Unaltered.{NoOtherObject, NoOtherObjectBy, isFree, Alike, agree, Untouched, WroteSame, SameCatalogue, Stays}
 use Rattle.demands.proofs.Accepted.{Accepted, accepted}
 use Rattle.demands.proofs.Files.{Filed, filed, file-linked, first-inside}
@@ -41,14 +42,14 @@ use Rattle.demands.proofs.Own.{window}
 
 -- a row by its number: its payload lies before the end, and a DNA1's is the same in both files
 module _ (h : Header) (s : List ℕ) where
-  payload-before : (rows : List Row) (at : ℕ) (last : Last) (n : DnaCounts) (end : ℕ) → Linked h s at last rows n end → (i : ℕ) → i < length rows
+  pub payload-before : (rows : List Row) (at : ℕ) (last : Last) (n : DnaCounts) (end : ℕ) → Linked h s at last rows n end → (i : ℕ) → i < length rows
       → getD rows i none .payload + getD rows i none .len ≤ end
   payload-before [] at last n end w i k = absurd (omega arith)
   payload-before (r ∷ rs) at last n end w zero k =
       omega (arith, block-lies h s at r (w .0) (w .1) (w .2) .payload, linked-ends h s rs (w .1) (w .0) n end (w .3) .0)
   payload-before (r ∷ rs) at last n end w (suc i) k = payload-before rs (w .1) (w .0) n end (w .3) i (omega arith)
 
-  dna-kept : (z : List ℕ) (rows : List Row) (at : ℕ) (last : Last) (n : DnaCounts) (end : ℕ) → Linked h s at last rows n end → end ≤ length z → Near h s z rows at end
+  pub dna-kept : (z : List ℕ) (rows : List Row) (at : ℕ) (last : Last) (n : DnaCounts) (end : ℕ) → Linked h s at last rows n end → end ≤ length z → Near h s z rows at end
       → (i : ℕ) → i < length rows → isDna (kindOf (getD rows i none .code)) ≡ true → payloadOf z (getD rows i none) ≡ payloadOf s (getD rows i none)
   dna-kept z [] at last n end w k u i m d = absurd (omega arith)
   dna-kept z (r ∷ rs) at last n end w k u zero m d = dna-near h s z r rs at last n end w k u d
@@ -109,17 +110,17 @@ module _ (header : Reader HeaderBytes) (tree : HeaderTree header) (s z : List �
     found : Filed header s f first
     found = filed header s f first e
 
-    links : Linked (f .header) s first Last.Other (f .chain .rows) n end
+    pub links : Linked (f .header) s first Last.Other (f .chain .rows) n end
     links = file-linked header s f first found n end l
 
-    near : Near (f .header) s z (f .chain .rows) first end
+    pub near : Near (f .header) s z (f .chain .rows) first end
     near i a b c = w .bytes i b c
 
     first-near : Untouched s z 0 first
     first-near i a b =
         w .bytes i (omega (arith, linked-ends (f .header) s (f .chain .rows) first Last.Other n end links .0)) (none-before (f .header) s (f .chain .rows) first Last.Other n end links i b)
 
-    header-kept : valued (run header z 0) ≡ read (f .header) first
+    pub header-kept : valued (run header z 0) ≡ read (f .header) first
     header-kept =
         let k : first ≤ length z = omega (arith, linked-ends (f .header) s (f .chain .rows) first Last.Other n end links .0, w .long) in
         let p : take first z ≡ take first s = window s z 0 first (omega (arith, first-inside header s f first found)) (omega arith) (λ i a b. first-near i a (omega arith)) in
@@ -133,7 +134,7 @@ module _ (header : Reader HeaderBytes) (tree : HeaderTree header) (s z : List �
         (kept (f .header) s z (f .chain .rows) first Last.Other n end links (w .long) near) (omega arith) k
         ∙ ap (λ (o : Outcome DnaCounts). record { rows = f .chain .rows; last = o }) (sym l)
 
-    file-kept : fileBy header z ≡ read f first
+    pub file-kept : fileBy header z ≡ read f first
     file-kept = ap (onHeader z) header-kept ∙ ap (λ (c : Chain). read (record { header = f .header; chain = c }) first) chain-kept
 
 -- a table that a call has filled from the front is as long as it was
@@ -157,7 +158,7 @@ module _ (o : Outcome File) (t t′ : List ℕ) (b : RawBlend) (a : Accepted o t
       ap (λ (rs : List Row). getD rs row none) (sym (a .rows)) ∙ row-at t′ (b .rows) 0 row k ∙ ap (rowSpelt t′) z
 
 module _ (header : Reader HeaderBytes) (tree : HeaderTree header) (s t t′ : List ℕ) (b : RawBlend) (w : Answers (fileBy header) s t (BlendAnswer.Is b) t′)
-    (z u u′ : List ℕ) (c : BlendAnswer) (x : Answers (fileBy header) z u c u′) (long : length u ≡ length t) (alike : Alike (rowsIn t′ b) (b .end) s z) where
+    (z u u′ : List ℕ) (c : BlendAnswer) (x : Answers (fileBy header) z u c u′) (long : length u ≡ length t) (alike : Alike (rowsIn t′ (b .rows)) (b .end) s z) where
   one : Accepted (fileBy header s) t t′ b
   one = accepted (fileBy header s) t t′ b (w .0) (w .1)
 
@@ -225,10 +226,9 @@ module _ (header : Reader HeaderBytes) (tree : HeaderTree header) (s t t′ : Li
         (dna-kept (one .file .header) s z rows (one .first) Last.Other (b .dna) (b .end) linked (like .long)
         (near header tree s z (one .file) (one .first) (b .dna) (b .end) (one .found) (one .last) like) row (omega (arith, counted (fileBy header s) t t′ b one row k)) q))
 
-  stays : Stays s t t′ b z u u′ c
+  stays : Stays s t t′ (b .rows) (b .header .endianness) z u u′
   stays =
       record {
-        answer = answer;
         rows = (
           two .rows ∙ ap (λ (f : File). f .chain .rows) files ∙ sym (one .rows),
           (rowTable rows, one .table, two .table ∙ ap (λ (f : File). over (rowTable (f .chain .rows)) u) files),
@@ -238,7 +238,10 @@ module _ (header : Reader HeaderBytes) (tree : HeaderTree header) (s t t′ : Li
       }
 
 pub unaltered : NoOtherObjectBy
-unaltered = stays
+unaltered header tree s t t′ (BlendAnswer.Is b) w z u u′ c x =
+    λ long alike. (answer header tree s t t′ b w z u u′ c x long alike, stays header tree s t t′ b w z u u′ c x long alike)
+unaltered header tree s t t′ (BlendAnswer.Refused n) w z u u′ c x = tt
+unaltered header tree s t t′ (BlendAnswer.TableTooShort n) w z u u′ c x = tt
 
 pub no-other-object : NoOtherObject
 no-other-object = unaltered headerBytes headerTree

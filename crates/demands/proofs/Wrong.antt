@@ -12,7 +12,7 @@ use Rattle.blend.specs.Blocks.{fields, blockHeader, kindOf, block, rowAt, finis
 use Rattle.blend.specs.Chain.{chain, chainFrom, readAs, rowTable}
 use Rattle.blend.specs.Header.{decimal as versionDecimal, legacy, new, headerBytes}
 use Rattle.held.specs.Held.{rowsSpelt}
-use Rattle.demands.specs.Answers.{Answers}
+use Rattle.blend.specs.Calls.{Answers}
 use Rattle.demands.specs.Cover.{blocksPart, Cover}
 use Rattle.demands.specs.Examples.{scene, sound, changed, answer, before, after}
 use Rattle.demands.specs.Unaltered.{Unaltered}
@@ -30,7 +30,7 @@ peeking-changed = (refl, refl)
 
 pub peeking-alters : Unaltered (peekingBy headerBytes) → ⊥
 peeking-alters demand =
-    let e : BlendAnswer.Refused 2 ≡ BlendAnswer.Is answer = demand sound before after answer peeking-sound changed before before (BlendAnswer.Refused 2) peeking-changed refl alike .answer in
+    let e : BlendAnswer.Refused 2 ≡ BlendAnswer.Is answer = demand sound before after (BlendAnswer.Is answer) peeking-sound changed before before (BlendAnswer.Refused 2) peeking-changed refl alike .0 in
     let z : _≡_ {A = ℕ} 0 1 = cc in
     absurd (omega arith)
 
@@ -45,7 +45,7 @@ short-sound = (refl, refl)
 pub short-uncovers : Cover headerBytes (shortBy headerBytes) → ⊥
 unfolding scene rowsSpelt blocksPart
 short-uncovers demand =
-    let e : _≡_ {A = ℕ} 148 145 = ap length (demand sound before shortAfter answer short-sound .whole) in
+    let e : _≡_ {A = ℕ} 148 145 = ap length (demand sound before shortAfter (BlendAnswer.Is answer) short-sound .whole) in
     absurd (omega arith)
 
 -- An end offset that forgets the mark leaves the mark uncovered.
@@ -59,7 +59,7 @@ unmarked-sound = (refl, refl)
 pub unmarked-uncovers : Cover headerBytes (unmarkedBy headerBytes) → ⊥
 unfolding scene rowsSpelt blocksPart
 unmarked-uncovers demand =
-    let e : _≡_ {A = ℕ} 144 148 = ap length (demand sound before after unmarked unmarked-sound .whole) in
+    let e : _≡_ {A = ℕ} 144 148 = ap length (demand sound before after (BlendAnswer.Is unmarked) unmarked-sound .whole) in
     absurd (omega arith)
 
 -- A first block that is read again in the place of the second, which has the same bytes, covers its bytes twice.
@@ -73,5 +73,5 @@ repeating-sound = (refl, refl)
 pub repeating-overlaps : Cover headerBytes (repeatingBy headerBytes) → ⊥
 unfolding rowsSpelt
 repeating-overlaps demand =
-    let e : _≡_ {A = ℕ} 12 40 = demand sound before repeated answer repeating-sound .abut .1 .0 in
+    let e : _≡_ {A = ℕ} 12 40 = demand sound before repeated (BlendAnswer.Is answer) repeating-sound .abut .1 .0 in
     absurd (omega arith)

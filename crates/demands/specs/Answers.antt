@@ -1,25 +1,18 @@
--- What the demands are stated of: an answer of `blend` and the row table after the call.
-use Prim.Native.Nat.{ℕ, _/_}
+-- What the demands are stated of: the rows in a table after a call, and the tree that reads a header. What `blend` answers and leaves in the table is its contract,
+-- `Answers` in crates/blend/specs/Calls.antt.
+use Prim.Native.Nat.{ℕ}
 use mathlib.Core.List.{List}
 use mathlib.Core.Path.{_≡_}
-use lib.ListN.{length, take}
-use Rattle.primitive.specs.Reader.{Reader, Outcome, run}
+use lib.ListN.{take}
+use Rattle.primitive.specs.Reader.{Reader, run}
 use Rattle.primitive.specs.Reader.Outcome.{read}
 use Rattle.blend.specs.declared.Row.{Row}
-use Rattle.blend.specs.declared.blend.RawBlend.{RawBlend}
-use Rattle.blend.specs.declared.blend.BlendAnswer.{BlendAnswer}
-use Rattle.blend.specs.Chain.{File, perRow, readAs, tableAfter, paperBlend}
 use Rattle.blend.specs.Header.{HeaderBytes, headerLength}
 use Rattle.held.specs.Held.{rowsSpelt}
 
--- The contract of `blend`, word for word but for the reading, which is `fileBy headerBytes` there: of the file s and the lent table t it answers r
--- and leaves t′.
-abbrev pub Answers : (List ℕ → Outcome File) → List ℕ → List ℕ → BlendAnswer → List ℕ → Type 0
-Answers reading s t r t′ = (paperBlend r ≡ readAs (reading s) (length t / perRow)) × (t′ ≡ tableAfter (reading s) t)
-
--- the rows that the table holds after an answer that is no refusal, each with its seven numbers
-abbrev pub rowsIn : List ℕ → RawBlend → List Row
-rowsIn t b = rowsSpelt t (b .rows) 0
+-- the first n rows that a table holds, each with its seven numbers
+abbrev pub rowsIn : List ℕ → ℕ → List Row
+rowsIn t n = rowsSpelt t n 0
 
 -- What the demands need of the tree that reads the header, so that another tree can take the place of `headerBytes`: it takes the 12 or 17 bytes of its
 -- edition, and what it finds depends on those alone.

@@ -3,22 +3,32 @@ use Prim.Native.Nat.{ℕ, _+_, _≤_}
 use mathlib.Core.Bool.{false}
 use mathlib.Core.List.{List, [], _∷_, _++_}
 use mathlib.Core.Path.{_≡_}
+use denote.Ref.{RefT, now}
 use lib.ListN.{length, take, drop}
 use Rattle.primitive.specs.declared.Endianness.the-variants.{Big}
 use Rattle.primitive.specs.Ascii.{ascii}
 use Rattle.primitive.specs.Number.{spelled}
+use Rattle.primitive.specs.PointerSize.{pointerBytes}
 use Rattle.primitive.specs.Reader.{Reader, Outcome, run, stands}
 use Rattle.primitive.specs.Reader.Outcome.{read}
 use Rattle.blend.specs.declared.Header.{Header}
 use Rattle.blend.specs.declared.Row.{Row}
-use Rattle.blend.specs.declared.blend.RawBlend.{RawBlend}
+use Rattle.blend.specs.declared.blend.HeaderAnswer.{HeaderAnswer}
 use Rattle.blend.specs.declared.blend.BlendAnswer.{BlendAnswer}
-use Rattle.blend.specs.Header.{HeaderBytes, headerLength, headerBytes, valued}
+use Rattle.blend.specs.Header.{HeaderBytes, headerLength, headerBytes, valued, edition, order}
 use Rattle.blend.specs.Blocks.{Field, Item, layout, blockHeaderLength, payloadOf}
 use Rattle.blend.specs.Blocks.Field.{size, address, index, count}
+use Rattle.blend.specs.Calls.{Answers, «blend::header», «walker::Place::step»}
 use Rattle.blend.specs.Chain.{File}
 use Rattle.blend.specs.Chain.{fileBy}
-use Rattle.demands.specs.Answers.{Answers, HeaderTree, rowsIn}
+use Rattle.blend.specs.Walker.{start, Walk}
+use Rattle.blend.specs.Walker.Stop.{ended}
+use Rattle.held.specs.declared.Walker.{Walker}
+use Rattle.held.specs.Calls as held
+use Rattle.held.specs.Walks.{HeldWalk}
+use Rattle.exports.specs.declared.BlendRead.{BlendRead}
+use Rattle.exports.specs.Calls.{«blend_read»}
+use Rattle.demands.specs.Answers.{HeaderTree, rowsIn}
 
 -- n bytes from a place
 abbrev pub part : List ℕ → ℕ → ℕ → List ℕ
@@ -76,10 +86,15 @@ pub record Covered (header : Reader HeaderBytes) (s : List ℕ) (h : Header) (ro
   pub blocks : Blocks h s rows
   pub abut : Abut (headerLength (h .format)) rows end
 
--- Whatever `blend` answers of a file that it reads, and leaves in the table, covers the file.
+-- the claim of an answer of `blend` and the table that it leaves; of a refusal nothing is said
+abbrev pub CoveredBy : Reader HeaderBytes → List ℕ → BlendAnswer → List ℕ → Type 0
+CoveredBy header s (BlendAnswer.Is b) t′ = Covered header s (b .header) (rowsIn t′ (b .rows)) (b .end)
+CoveredBy header s (BlendAnswer.Refused n) t′ = Unit {0}
+CoveredBy header s (BlendAnswer.TableTooShort n) t′ = Unit {0}
+
+-- Whatever `blend` answers of a file, and leaves in the table, covers the file.
 abbrev pub Cover : Reader HeaderBytes → (List ℕ → Outcome File) → Type 0
-Cover header reading =
-    (s t t′ : List ℕ) (b : RawBlend) → Answers reading s t (BlendAnswer.Is b) t′ → Covered header s (b .header) (rowsIn t′ b) (b .end)
+Cover header reading = (s t t′ : List ℕ) (r : BlendAnswer) → Answers reading s t r t′ → CoveredBy header s r t′
 
 -- whatever tree reads the header, if it is one that takes its edition's bytes and looks at no others
 abbrev pub EveryBlockBy : Type 0
@@ -88,3 +103,21 @@ EveryBlockBy = (header : Reader HeaderBytes) → HeaderTree header → Cover hea
 -- Did the reader take every block of the scene? The reading is the one that the contract of `blend` cites.
 abbrev pub EveryBlock : Type 0
 EveryBlock = Cover headerBytes (fileBy headerBytes)
+
+-- The same of the exported reading: where it refuses nothing, with the header that its numbers tell.
+abbrev pub HeaderTold : Header → BlendRead → Type 0
+HeaderTold h r = (r .edition ≡ edition (h .format)) × (r .«pointer_bytes» ≡ pointerBytes (h .«pointer_size»)) × (r .order ≡ order (h .endianness)) × (r .major ≡ h .version .major) × (r .minor ≡ h .version .minor)
+
+abbrev pub EveryBlockExported : Type 0
+EveryBlockExported =
+    (s t t′ : List ℕ) (r : BlendRead) → «blend_read» s t r t′ → r .refusal ≡ 0 → (h : Header) × HeaderTold h r × Covered headerBytes s h (rowsIn t′ (r .rows)) (r .end)
+
+-- The same of a walk from the start to the end mark, by places and by a walker that holds the file, with the header that `header` answers.
+abbrev pub CoveredFile : List ℕ → List Row → ℕ → Type 0
+CoveredFile s rows end = (h : Header) × («blend::header» s (HeaderAnswer.Is h (headerLength (h .format)))) × Covered headerBytes s h rows end
+
+abbrev pub EveryBlockWalked : Type 0
+EveryBlockWalked = (s : List ℕ) (rows : List Row) (end : ℕ) → Walk (λ p r. «walker::Place::step» p s r) start rows (ended end) → CoveredFile s rows end
+
+abbrev pub EveryBlockHeld : Type 0
+EveryBlockHeld = (file : RefT (List ℕ)) (w : Walker) (rows : List Row) (end : ℕ) → held.over file w → HeldWalk w rows (ended end) → CoveredFile (now file) rows end

@@ -1,30 +1,40 @@
--- Examples at the edges: those that document 01 marks with P, as one list with one claim; and the scenes that the demands are tried on.
-use Prim.Native.Nat.{ℕ}
+-- Examples at the edges: those that document 01 marks with P, as one list with one claim, of what the calls answer; and the scenes that the demands are tried on.
+use Prim.Native.Nat.{ℕ, _+_, _-_}
 use mathlib.Core.List.{List, [], _∷_, _++_}
 use mathlib.Core.Path.{_≡_}
 use lib.ListN.{replicate}
-use Rattle.primitive.specs.declared.Endianness.the-variants.{Little}
-use Rattle.primitive.specs.declared.PointerSize.the-variants.{Bits64}
+use Rattle.primitive.specs.declared.Endianness.{Endianness}
+use Rattle.primitive.specs.declared.Endianness.the-variants.{Little, Big}
+use Rattle.primitive.specs.declared.PointerSize.{PointerSize}
+use Rattle.primitive.specs.declared.PointerSize.the-variants.{Bits32, Bits64}
 use Rattle.primitive.specs.Ascii.{ascii}
 use Rattle.primitive.specs.Paper.{Paper}
 use Rattle.primitive.specs.Paper.Paper.{refuses}
-use Rattle.field.specs.Declarators.{declared, told, parsedAs, dimensionsOf}
-use Rattle.blend.specs.declared.FileFormat.the-variants.{Legacy}
+use Rattle.primitive.specs.Tables.{over}
+use Rattle.field.specs.declared.field.ParsedField.{ParsedField}
+use Rattle.field.specs.Calls.{«field::parse_field»}
+use Rattle.field.specs.Declarators.{told, paperField}
+use Rattle.blend.specs.declared.FileFormat.{FileFormat}
+use Rattle.blend.specs.declared.FileFormat.the-variants.{Legacy, New}
+use Rattle.blend.specs.declared.Header.{Header}
+use Rattle.blend.specs.declared.Version.{Version}
+use Rattle.blend.specs.declared.blend.HeaderAnswer.{HeaderAnswer}
 use Rattle.blend.specs.declared.blend.RawBlend.{RawBlend}
 use Rattle.blend.specs.declared.blend.BlendAnswer.{BlendAnswer}
-use Rattle.blend.specs.Chain.{fileBy, readAs}
-use Rattle.blend.specs.Header.{headerBytes, versionOf}
-use Rattle.demands.specs.Answers.{Answers}
+use Rattle.blend.specs.Calls.{«blend::header», «blend::blend»}
+use Rattle.blend.specs.Chain.{paperBlend}
 
 pub data Example : Type 0 where
   file : List ℕ → Paper → Example  -- a file, and what the reader answers
-  version : List ℕ → (major minor : ℕ) → Example  -- version bytes, and the version
+  version : List ℕ → (major minor : ℕ) → Example  -- a header with these version bytes, and the version
   declarator : List ℕ → Paper → List ℕ → Example  -- a field's name, what is answered with a table of 2 numbers, and the dimensions
 
 abbrev pub Holds : Example → Type 0
-Holds (file s answer) = (room : ℕ) → readAs (fileBy headerBytes s) room ≡ answer
-Holds (version bs major minor) = versionOf bs ≡ record { major = major; minor = minor }
-Holds (declarator s answer dimensions) = (parsedAs (declared s) 2 ≡ answer) × (dimensionsOf (declared s) ≡ dimensions)
+Holds (file s answer) = (t t′ : List ℕ) (r : BlendAnswer) → «blend::blend» s t r t′ → paperBlend r ≡ answer
+Holds (version s major minor) =
+    (r : HeaderAnswer) → «blend::header» s r → (h : Header) × (at : ℕ) × (r ≡ HeaderAnswer.Is h at) × (h .version ≡ record { major = major; minor = minor })
+Holds (declarator s answer dimensions) =
+    (r : ParsedField) (t′ : List ℕ) → «field::parse_field» s (9 ∷ 9 ∷ []) r t′ → (paperField r ≡ answer) × (t′ ≡ over dimensions (9 ∷ 9 ∷ []))
 
 abbrev pub All : List Example → Type 0
 All [] = Unit {0}
@@ -40,8 +50,8 @@ abbrev pub examples : List Example
 examples =
     file (ascii "BLENDE") (refuses 1 [])
     ∷ file (ascii "BLENDER") (refuses 2 [])
-    ∷ version (ascii "0501") 5 1
-    ∷ version (ascii "2x0") 0 20
+    ∷ version (ascii "BLENDER17-01v0501") 5 1
+    ∷ version (ascii "BLENDER-v2x0") 0 20
     ∷ file twoOfOne (refuses 4 [])
     ∷ declarator (ascii "a[3") (told 1 (0, 1) (1, 2) (1 ∷ 0 ∷ [])) []
     ∷ declarator (ascii "a[]") (refuses 9 []) []
@@ -90,6 +100,70 @@ before = replicate 22 9
 abbrev pub after : List ℕ
 after = 1329725440 ∷ 16 ∷ 3 ∷ 1 ∷ 12 ∷ 36 ∷ 4 ∷ 1329725440 ∷ 16 ∷ 3 ∷ 1 ∷ 40 ∷ 64 ∷ 4 ∷ 1145979185 ∷ 32 ∷ 0 ∷ 1 ∷ 68 ∷ 92 ∷ 52 ∷ 9 ∷ []
 
--- both are read, with the same answer and the same table
-abbrev pub ScenesAreRead : Type 0
-ScenesAreRead = Answers (fileBy headerBytes) sound before (BlendAnswer.Is answer) after × Answers (fileBy headerBytes) changed before (BlendAnswer.Is answer) after
+-- Document 01's scene, with one object, in each of the eight forms. Every number in it is small: its byte stands first in the little order and last in the big one.
+abbrev pub small : Endianness → (width n : ℕ) → List ℕ
+small Little width n = n ∷ replicate (width - 1) 0
+small Big width n = replicate (width - 1) 0 ++ (n ∷ [])
+
+abbrev pub pointerMark : PointerSize → List ℕ
+pointerMark Bits32 = ascii "_"
+pointerMark Bits64 = ascii "-"
+
+abbrev pub orderMark : Endianness → List ℕ
+orderMark Little = ascii "v"
+orderMark Big = ascii "V"
+
+abbrev pub headerIn : FileFormat → PointerSize → Endianness → List ℕ
+headerIn Legacy p e = ascii "BLENDER" ++ pointerMark p ++ orderMark e ++ ascii "280"
+headerIn New p e = ascii "BLENDER17" ++ pointerMark p ++ ascii "01" ++ orderMark e ++ ascii "0501"
+
+-- the width of an address, and a block header after its code
+abbrev pub wide : PointerSize → ℕ
+wide Bits32 = 4
+wide Bits64 = 8
+
+abbrev pub blockIn : FileFormat → PointerSize → Endianness → (size address index count : ℕ) → List ℕ
+blockIn Legacy p e size address index count = small e 4 size ++ small e (wide p) address ++ small e 4 index ++ small e 4 count
+blockIn New p e size address index count = small Little 4 index ++ small e (wide p) address ++ small Little 8 size ++ small Little 8 count
+
+unfoldable pub sceneIn : FileFormat → PointerSize → Endianness → List ℕ
+sceneIn f p e =
+    headerIn f p e
+    ++ ascii "OB" ++ (0 ∷ 0 ∷ []) ++ blockIn f p e 4 16 3 1 ++ ascii "hull"
+    ++ ascii "DNA1" ++ blockIn f p e 52 32 0 1
+    ++ ascii "SDNANAME" ++ small e 4 1 ++ ascii "x" ++ (0 ∷ 0 ∷ 0 ∷ []) ++ ascii "TYPE" ++ small e 4 1 ++ ascii "int" ++ (0 ∷ [])
+    ++ ascii "TLEN" ++ small e 2 4 ++ (0 ∷ 0 ∷ []) ++ ascii "STRC" ++ small e 4 1 ++ small e 2 0 ++ small e 2 1 ++ small e 2 0 ++ small e 2 0
+    ++ ascii "ENDB"
+
+-- the version of each edition's header, and where its blocks start and how long their headers are
+abbrev pub versionIn : FileFormat → Version
+versionIn Legacy = record { major = 2; minor = 80 }
+versionIn New = record { major = 5; minor = 1 }
+
+abbrev pub rowsAt : FileFormat → PointerSize → ℕ × ℕ
+rowsAt Legacy Bits32 = (12, 20)
+rowsAt Legacy Bits64 = (12, 24)
+rowsAt New Bits32 = (17, 28)
+rowsAt New Bits64 = (17, 32)
+
+abbrev pub answerIn : FileFormat → PointerSize → Endianness → RawBlend
+answerIn f p e =
+    record {
+      header = record { «pointer_size» = p; endianness = e; version = versionIn f; format = f };
+      rows = 2;
+      end = rowsAt f p .0 + rowsAt f p .1 + 4 + rowsAt f p .1 + 52 + 4;
+      dna = record { names = 1; types = 1; structs = 1; fields = 1 };
+    }
+
+abbrev pub tableIn : FileFormat → PointerSize → List ℕ
+tableIn f p =
+    let first = rowsAt f p .0 in
+    let long = rowsAt f p .1 in
+    let second = first + long + 4 in
+    1329725440 ∷ 16 ∷ 3 ∷ 1 ∷ first ∷ (first + long) ∷ 4 ∷ 1145979185 ∷ 32 ∷ 0 ∷ 1 ∷ second ∷ (second + long) ∷ 52 ∷ []
+
+-- All are read: the first two with the same answer and the same table, and the scene in every form.
+pub record ScenesAreRead : Type 0 where
+  pub of-sound : «blend::blend» sound before (BlendAnswer.Is answer) after
+  pub of-changed : «blend::blend» changed before (BlendAnswer.Is answer) after
+  pub of-forms : (f : FileFormat) (p : PointerSize) (e : Endianness) → «blend::blend» (sceneIn f p e) (replicate 14 9) (BlendAnswer.Is (answerIn f p e)) (tableIn f p)

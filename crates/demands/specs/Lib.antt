@@ -3,7 +3,7 @@
 pub mod Answers
 pub mod Cover
 pub mod Unaltered
-pub mod OneOutcome
-pub mod Refused
+pub mod Sentences
 pub mod Examples
 pub mod Wrong
+pub mod Calls

@@ -4,6 +4,7 @@ use Prim.Native.Nat.{ℕ, zero, suc, _+_, _≤_, _<_}
 use mathlib.Core.Bool.{Bool, true, false, not, _&&_, _||_}
 use mathlib.Core.List.{List, [], _∷_}
 use mathlib.Core.Path.{_≡_}
+use denote.Ref.{RefT, now}
 use lib.Dec.{leb, ltb, eqb}
 use lib.ListN.{length, getD}
 use Rattle.primitive.specs.declared.Endianness.{Endianness}
@@ -13,14 +14,25 @@ use Rattle.primitive.specs.Tables.{over}
 use Rattle.dna.specs.declared.dna.DnaTables.{DnaTables}
 use Rattle.dna.specs.Catalogue.{catalogue, Filled}
 use Rattle.blend.specs.declared.Row.{Row}
-use Rattle.blend.specs.declared.blend.RawBlend.{RawBlend}
+use Rattle.blend.specs.declared.Header.{Header}
+use Rattle.blend.specs.declared.blend.HeaderAnswer.{HeaderAnswer}
 use Rattle.blend.specs.declared.blend.BlendAnswer.{BlendAnswer}
-use Rattle.blend.specs.Blocks.{codeNumber}
+use Rattle.blend.specs.Blocks.{codeNumber, payloadOf}
+use Rattle.blend.specs.Calls.{Answers, «blend::header», «walker::Place::step»}
 use Rattle.blend.specs.Chain.{File}
 use Rattle.blend.specs.Chain.{fileBy}
 use Rattle.blend.specs.Header.{HeaderBytes, headerBytes}
+use Rattle.blend.specs.Walker.{start, Walk}
+use Rattle.blend.specs.Walker.Stop.{ended}
 use Rattle.runtime.specs.Views.{cell, viewAs, partAs}
-use Rattle.demands.specs.Answers.{Answers, HeaderTree, rowsIn}
+use Rattle.held.specs.declared.Walker.{Walker}
+use Rattle.held.specs.Calls as held
+use Rattle.held.specs.Held.{none}
+use Rattle.held.specs.Walks.{HeldWalk}
+use Rattle.exports.specs.declared.BlendRead.{BlendRead}
+use Rattle.exports.specs.Calls.{«blend_read»}
+use Rattle.exports.specs.Exports.{orderOf}
+use Rattle.demands.specs.Answers.{HeaderTree, rowsIn}
 
 -- a block other than DNA1
 abbrev pub isOther : Row → Bool
@@ -57,24 +69,27 @@ SameCatalogue e p q =
     → Filled (run (catalogue e) p 0) a n t s f n′ t′ s′ f′ → Filled (run (catalogue e) q 0) c m u v g m′ u′ v′ g′
     → (c ≡ a) × WroteSame n n′ m m′ × WroteSame t t′ u u′ × WroteSame s s′ v v′ × WroteSame f f′ g g′
 
--- The claim of a file s, the answer b and the table t′ (which held t), and of a second file z, the answer c and the table u′ (which held u).
-pub record Stays (s t t′ : List ℕ) (b : RawBlend) (z u u′ : List ℕ) (c : BlendAnswer) : Type 0 where
-  -- the same header, number of rows, end offset and counts
-  pub answer : c ≡ BlendAnswer.Is b
-  pub rows : (rowsIn u′ b ≡ rowsIn t′ b) × WroteSame t t′ u u′
+-- The claim of a file s that was read, with a table that held t and holds t′, so many rows in it and this byte order; and of a second file z, with a table that
+-- held u and holds u′.
+pub record Stays (s t t′ : List ℕ) (n : ℕ) (e : Endianness) (z u u′ : List ℕ) : Type 0 where
+  pub rows : (rowsIn u′ n ≡ rowsIn t′ n) × WroteSame t t′ u u′
   -- every payload can be viewed in both, and one in which no byte differs shows the same bytes
-  pub views : (row : ℕ) → row < b .rows
+  pub views : (row : ℕ) → row < n
       → (viewAs s t′ row ≡ accepts 0 []) × (viewAs z u′ row ≡ accepts 0 []) × (Untouched s z (cell t′ row 5) (cell t′ row 5 + cell t′ row 6) → partAs z u′ row ≡ partAs s t′ row)
   -- so does every DNA1's, and its catalogue is the same
-  pub catalogues : (row : ℕ) → row < b .rows → cell t′ row 0 ≡ codeNumber "DNA1"
-      → (partAs z u′ row ≡ partAs s t′ row) × SameCatalogue (b .header .endianness) (partAs s t′ row) (partAs z u′ row)
+  pub catalogues : (row : ℕ) → row < n → cell t′ row 0 ≡ codeNumber "DNA1"
+      → (partAs z u′ row ≡ partAs s t′ row) × SameCatalogue e (partAs s t′ row) (partAs z u′ row)
+
+-- the claim of two answers of `blend`: where the first is no refusal, the second has the same header, number of rows, end offset and counts, and the rest stays
+abbrev pub UnalteredBy : (s t : List ℕ) → BlendAnswer → (t′ z u : List ℕ) → BlendAnswer → List ℕ → Type 0
+UnalteredBy s t (BlendAnswer.Is b) t′ z u c u′ =
+    length u ≡ length t → Alike (rowsIn t′ (b .rows)) (b .end) s z → (c ≡ BlendAnswer.Is b) × Stays s t t′ (b .rows) (b .header .endianness) z u u′
+UnalteredBy s t (BlendAnswer.Refused n) t′ z u c u′ = Unit {0}
+UnalteredBy s t (BlendAnswer.TableTooShort n) t′ z u c u′ = Unit {0}
 
 -- Whatever `blend` answers of two such files with tables of the same length, where it reads the first.
 abbrev pub Unaltered : (List ℕ → Outcome File) → Type 0
-Unaltered reading =
-    (s t t′ : List ℕ) (b : RawBlend) → Answers reading s t (BlendAnswer.Is b) t′
-    → (z u u′ : List ℕ) (c : BlendAnswer) → Answers reading z u c u′
-    → length u ≡ length t → Alike (rowsIn t′ b) (b .end) s z → Stays s t t′ b z u u′ c
+Unaltered reading = (s t t′ : List ℕ) (r : BlendAnswer) → Answers reading s t r t′ → (z u u′ : List ℕ) (c : BlendAnswer) → Answers reading z u c u′ → UnalteredBy s t r t′ z u c u′
 
 -- whatever tree reads the header, as in Cover.antt
 abbrev pub NoOtherObjectBy : Type 0
@@ -83,3 +98,26 @@ NoOtherObjectBy = (header : Reader HeaderBytes) → HeaderTree header → Unalte
 -- Can a bad byte in one object's data alter what is read of another? The reading is the one that the contract of `blend` cites.
 abbrev pub NoOtherObject : Type 0
 NoOtherObject = Unaltered (fileBy headerBytes)
+
+-- The same of the exported reading: where it refuses nothing of the first file, the second gets the same numbers, and the rest stays.
+abbrev pub NoOtherObjectExported : Type 0
+NoOtherObjectExported =
+    (s t t′ : List ℕ) (r : BlendRead) → «blend_read» s t r t′ → r .refusal ≡ 0 → (z u u′ : List ℕ) (q : BlendRead) → «blend_read» z u q u′
+    → length u ≡ length t → Alike (rowsIn t′ (r .rows)) (r .end) s z → (q ≡ r) × Stays s t t′ (r .rows) (orderOf (r .order)) z u u′
+
+-- The same of a walk from the start to the end mark: the second file's has the same rows and the same end, every untouched payload has the same bytes, and so has
+-- every DNA1's.
+pub record WalksOn (s : List ℕ) (rows : List Row) (z : List ℕ) : Type 0 where
+  pub header : (h : Header) (at : ℕ) → «blend::header» s (HeaderAnswer.Is h at) → «blend::header» z (HeaderAnswer.Is h at)
+  pub payloads : (i : ℕ) → i < length rows → Untouched s z (getD rows i none .payload) (getD rows i none .payload + getD rows i none .len) → payloadOf z (getD rows i none) ≡ payloadOf s (getD rows i none)
+  pub catalogues : (i : ℕ) → i < length rows → getD rows i none .code ≡ codeNumber "DNA1" → payloadOf z (getD rows i none) ≡ payloadOf s (getD rows i none)
+
+abbrev pub NoOtherObjectWalked : Type 0
+NoOtherObjectWalked =
+    (s : List ℕ) (rows : List Row) (end : ℕ) → Walk (λ p r. «walker::Place::step» p s r) start rows (ended end) → (z : List ℕ) → Alike rows end s z
+    → Walk (λ p r. «walker::Place::step» p z r) start rows (ended end) × WalksOn s rows z
+
+abbrev pub NoOtherObjectHeld : Type 0
+NoOtherObjectHeld =
+    (file : RefT (List ℕ)) (w : Walker) (rows : List Row) (end : ℕ) → held.over file w → HeldWalk w rows (ended end) → (other : RefT (List ℕ)) (v : Walker) → held.over other v
+    → Alike rows end (now file) (now other) → HeldWalk v rows (ended end) × WalksOn (now file) rows (now other)

@@ -6,3 +6,4 @@ pub mod Shorts
 pub mod Layouts
 pub mod Rows
 pub mod Answers
+pub mod Refusing

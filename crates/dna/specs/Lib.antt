@@ -1,3 +1,4 @@
 -- The rules of the catalogue.
 pub mod Catalogue
 pub mod Passes
+pub mod Calls

@@ -18,6 +18,7 @@ ghost use Rattle.primitive.specs.Number.{number};
 ghost use Rattle.primitive.specs.Reader.{run, times};
 ghost use Rattle.dna.specs.Catalogue as rules;
 ghost use Rattle.dna.specs.Passes.{ListedIs, SizedIs, StructsAre, OneStructIs, LaidIs, Spanned, spanOf, totalled, structTotal, shortsFrom, afterNames, afterTypes};
+ghost use Rattle.dna.specs.Calls as calls;
 
 // A number in the list of types, and one in the list of names. Neither stands in for the other.
 pub struct TypeNumber(pub u64);
@@ -507,8 +508,7 @@ fn fill_fields(s: &[u8], e: Endianness, at: usize, n: u64, table: &mut [u64])
 
 // What a payload has, or where and why it does not read: the catalogue without tables.
 pub fn dna_counts(payload: &[u8], endianness: Endianness) -> DnaCounted
-    ensures { λ r. ⌜ rules.paperCounted r ≡ rules.countedAs (run (rules.catalogue endianness) (now (payload .entry)) 0) ⌝ }
-    ensures { λ r. ⌜ rules.outcomeOf r ≡ rules.countsOnly (run (rules.catalogue endianness) (now (payload .entry)) 0) ⌝ }
+    ensures { λ r. ⌜ calls.«dna::dna_counts» (now (payload .entry)) endianness r ⌝ }
 {
     match whole(payload, endianness) {
         Laid::Stopped(f) => DnaCounted::Stopped(f),
@@ -552,7 +552,7 @@ pub fn dna(
     structs: &mut [u64],
     fields: &mut [u64],
 ) -> DnaTables
-    ensures { λ r. ⌜ rules.Filled (run (rules.catalogue endianness) (now (payload .entry)) 0) r (now (names .entry)) (now (types .entry)) (now (structs .entry)) (now (fields .entry)) (now (names .exit)) (now (types .exit)) (now (structs .exit)) (now (fields .exit)) ⌝ }
+    ensures { λ r. ⌜ calls.«dna::dna» (now (payload .entry)) endianness (now (names .entry)) (now (types .entry)) (now (structs .entry)) (now (fields .entry)) r (now (names .exit)) (now (types .exit)) (now (structs .exit)) (now (fields .exit)) ⌝ }
 {
     match whole(payload, endianness) {
         Laid::Stopped(_) => DnaTables::Malformed,

@@ -1,2 +1,3 @@
 -- The rules of the library for other languages.
 pub mod Exports
+pub mod Calls

@@ -33,19 +33,15 @@ use runtime::runtime::ViewAnswer;
 use runtime::runtime::get_ptr;
 use runtime::runtime::view;
 ghost use mathlib.Core.Path.{_≡_};
-ghost use Prim.Native.Nat.{_/_};
 ghost use mathlib.Core.List.{[], _∷_};
 ghost use lib.ListN.{length};
 ghost use Rattle.primitive.specs.Paper.Paper.{refuses};
-ghost use Rattle.primitive.specs.Primitive.{valueOf, unsigned};
-ghost use Rattle.primitive.specs.Reader.{run};
 ghost use Rattle.dna.specs.Catalogue as catalogues;
 ghost use Rattle.field.specs.Declarators as declarators;
-ghost use Rattle.runtime.specs.Addresses.{lookupAs};
 ghost use Rattle.blend.specs.Chain as chains;
 ghost use Rattle.blend.specs.Header as headers;
-ghost use Rattle.runtime.specs.Views as views;
 ghost use Rattle.exports.specs.Exports as rules;
+ghost use Rattle.exports.specs.Calls as calls;
 
 // In every struct `refusal` is 0, or the number of a refusal, and then every number that it does not carry is 0.
 #[repr(C)]
@@ -152,7 +148,7 @@ fn order_of(n: u64) -> Endianness
 
 #[no_mangle]
 pub extern "C" fn blend_header(file: &[u8]) -> BlendHeader
-    ensures { λ r. ⌜ r ≡ rules.headerOut (headers.headerAs (headers.valued (run headers.headerBytes (now (file .entry)) 0))) ⌝ }
+    ensures { λ r. ⌜ calls.«blend_header» (now (file .entry)) r ⌝ }
 {
     match header(file) {
         HeaderAnswer::Is(h, at) => {
@@ -231,8 +227,7 @@ fn read_refused(refusal: u64, needed: u64) -> BlendRead
 
 #[no_mangle]
 pub extern "C" fn blend_read(file: &[u8], table: &mut [u64]) -> BlendRead
-    ensures { λ r. ⌜ r ≡ rules.readOut (chains.readAs (chains.fileBy headers.headerBytes (now (file .entry))) (length (now (table .entry)) / chains.perRow)) ⌝ }
-    ensures { λ _. ⌜ now (table .exit) ≡ chains.tableAfter (chains.fileBy headers.headerBytes (now (file .entry))) (now (table .entry)) ⌝ }
+    ensures { λ r. ⌜ calls.«blend_read» (now (file .entry)) (now (table .entry)) r (now (table .exit)) ⌝ }
 {
     match blend(file, table) {
         BlendAnswer::Is(b) => read_out(b),
@@ -282,7 +277,7 @@ pub extern "C" fn blend_catalogue(
     structs: &mut [u64],
     fields: &mut [u64],
 ) -> BlendCatalogue
-    ensures { λ r. ⌜ rules.Catalogued (run (catalogues.catalogue (rules.orderOf order)) (now (payload .entry)) 0) r (now (names .entry)) (now (types .entry)) (now (structs .entry)) (now (fields .entry)) (now (names .exit)) (now (types .exit)) (now (structs .exit)) (now (fields .exit)) ⌝ }
+    ensures { λ r. ⌜ calls.«blend_catalogue» (now (payload .entry)) order (now (names .entry)) (now (types .entry)) (now (structs .entry)) (now (fields .entry)) r (now (names .exit)) (now (types .exit)) (now (structs .exit)) (now (fields .exit)) ⌝ }
 {
     let answer = dna(payload, order_of(order), names, types, structs, fields);
     catalogue_out(answer)
@@ -374,8 +369,7 @@ fn field_out(d: Declarator) -> BlendField
 
 #[no_mangle]
 pub extern "C" fn blend_field(name: &[u8], dimensions: &mut [u64]) -> BlendField
-    ensures { λ r. ⌜ r ≡ rules.fieldOut (declarators.parsedAs (declarators.declared (now (name .entry))) (length (now (dimensions .entry)))) ⌝ }
-    ensures { λ _. ⌜ now (dimensions .exit) ≡ declarators.filledBy (declarators.declared (now (name .entry))) (now (dimensions .entry)) ⌝ }
+    ensures { λ r. ⌜ calls.«blend_field» (now (name .entry)) (now (dimensions .entry)) r (now (dimensions .exit)) ⌝ }
 {
     match parse_field(name, dimensions) {
         ParsedField::Is(d) => field_out(d),
@@ -426,7 +420,7 @@ fn size_of(bytes: u64) -> PointerSize
 
 #[no_mangle]
 pub extern "C" fn blend_width(kind: u64, length: u64, size: u64, pointer_bytes: u64) -> BlendValue
-    ensures { λ r. ⌜ r ≡ rules.valueOut (declarators.widthAs (rules.declaratorOf kind length) size (rules.sizeOf «pointer_bytes»)) ⌝ }
+    ensures { λ r. ⌜ calls.«blend_width» kind length size «pointer_bytes» r ⌝ }
 {
     let none = Place { at: 0, len: 0 };
     let d = Declarator {
@@ -448,7 +442,7 @@ pub extern "C" fn blend_width(kind: u64, length: u64, size: u64, pointer_bytes: 
 
 #[no_mangle]
 pub extern "C" fn blend_view(file: &[u8], table: &[u64], row: usize) -> BlendView
-    ensures { λ r. ⌜ r ≡ rules.viewOut (views.viewAs (now (file .entry)) (now (table .entry)) row) (views.cell (now (table .entry)) row 5) (views.cell (now (table .entry)) row 6) ⌝ }
+    ensures { λ r. ⌜ calls.«blend_view» (now (file .entry)) (now (table .entry)) row r ⌝ }
 {
     if row < table.len() / Row::NUMBERS {
         match view(file, table, row) {
@@ -474,7 +468,7 @@ pub extern "C" fn blend_view(file: &[u8], table: &[u64], row: usize) -> BlendVie
 
 #[no_mangle]
 pub extern "C" fn blend_lookup(table: &[u64], rows: usize, address: u64) -> BlendPointer
-    ensures { λ r. ⌜ r ≡ rules.pointerOut (lookupAs (now (table .entry)) rows address) ⌝ }
+    ensures { λ r. ⌜ calls.«blend_lookup» (now (table .entry)) rows address r ⌝ }
 {
     match get_ptr(table, rows, address) {
         Pointer::Null => BlendPointer {
@@ -502,7 +496,7 @@ pub extern "C" fn blend_lookup(table: &[u64], rows: usize, address: u64) -> Blen
 
 #[no_mangle]
 pub extern "C" fn blend_u8(slice: &[u8], order: u64) -> BlendValue
-    ensures { λ r. ⌜ r ≡ rules.valueOut (valueOf 1 unsigned (rules.orderOf order) (now (slice .entry))) ⌝ }
+    ensures { λ r. ⌜ calls.«blend_u8» (now (slice .entry)) order r ⌝ }
 {
     match parse_u8(slice, order_of(order)) {
         ValueU8::Is(n) => BlendValue {
@@ -518,7 +512,7 @@ pub extern "C" fn blend_u8(slice: &[u8], order: u64) -> BlendValue
 
 #[no_mangle]
 pub extern "C" fn blend_u16(slice: &[u8], order: u64) -> BlendValue
-    ensures { λ r. ⌜ r ≡ rules.valueOut (valueOf 2 unsigned (rules.orderOf order) (now (slice .entry))) ⌝ }
+    ensures { λ r. ⌜ calls.«blend_u16» (now (slice .entry)) order r ⌝ }
 {
     match parse_u16(slice, order_of(order)) {
         ValueU16::Is(n) => BlendValue {
@@ -534,7 +528,7 @@ pub extern "C" fn blend_u16(slice: &[u8], order: u64) -> BlendValue
 
 #[no_mangle]
 pub extern "C" fn blend_u32(slice: &[u8], order: u64) -> BlendValue
-    ensures { λ r. ⌜ r ≡ rules.valueOut (valueOf 4 unsigned (rules.orderOf order) (now (slice .entry))) ⌝ }
+    ensures { λ r. ⌜ calls.«blend_u32» (now (slice .entry)) order r ⌝ }
 {
     match parse_u32(slice, order_of(order)) {
         ValueU32::Is(n) => BlendValue {
@@ -550,7 +544,7 @@ pub extern "C" fn blend_u32(slice: &[u8], order: u64) -> BlendValue
 
 #[no_mangle]
 pub extern "C" fn blend_u64(slice: &[u8], order: u64) -> BlendValue
-    ensures { λ r. ⌜ r ≡ rules.valueOut (valueOf 8 unsigned (rules.orderOf order) (now (slice .entry))) ⌝ }
+    ensures { λ r. ⌜ calls.«blend_u64» (now (slice .entry)) order r ⌝ }
 {
     match parse_u64(slice, order_of(order)) {
         ValueU64::Is(n) => BlendValue {

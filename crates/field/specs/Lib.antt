@@ -1,3 +1,4 @@
 -- The rules of declarators.
 pub mod Declarators
 pub mod Helpers
+pub mod Calls

@@ -3,11 +3,12 @@ use primitive::PointerSize;
 use primitive::cursor::before;
 use primitive::cursor::stands_at;
 ghost use mathlib.Core.Path.{_≡_};
-ghost use Prim.Native.Nat.{_+_, _≤_};
+ghost use Prim.Native.Nat.{_≤_};
 ghost use mathlib.Core.List.{_++_};
 ghost use lib.ListN.{length, drop};
 ghost use Rattle.field.specs.Declarators as rules;
 ghost use Rattle.field.specs.Helpers.{timesOf, decimalOf, groupOf, finish, leading, scanOf, functionOf, plainKind, arrayKind};
+ghost use Rattle.field.specs.Calls as calls;
 
 // An offset in the bytes handed in, and a length.
 pub struct Place {
@@ -346,14 +347,14 @@ fn scanned(name: &[u8]) -> Scan
 
 // A function pointer, or refusal 2.
 pub fn fn_pointer(name: &[u8]) -> FnPointerField
-    ensures { λ r. ⌜ rules.paperFunction r ≡ rules.functionAs (now (name .entry)) ⌝ }
+    ensures { λ r. ⌜ calls.«field::fn_pointer» (now (name .entry)) r ⌝ }
 {
     function_pointer(name)
 }
 
 // The declarator that name is, with no table for the dimensions.
 pub fn scan_field(name: &[u8]) -> ParsedField
-    ensures { λ r. ⌜ rules.paperField r ≡ rules.scannedAs (rules.declared (now (name .entry))) ⌝ }
+    ensures { λ r. ⌜ calls.«field::scan_field» (now (name .entry)) r ⌝ }
 {
     match scanned(name) {
         Scan::Plain(d) => ParsedField::Is(d),
@@ -371,8 +372,7 @@ pub fn scan_field(name: &[u8]) -> ParsedField
 
 // The declarator that name is; its dimensions fill the table from the front.
 pub fn parse_field(name: &[u8], dimensions: &mut [u64]) -> ParsedField
-    ensures { λ r. ⌜ rules.paperField r ≡ rules.parsedAs (rules.declared (now (name .entry))) (length (now (dimensions .entry))) ⌝ }
-    ensures { λ _. ⌜ now (dimensions .exit) ≡ rules.filledBy (rules.declared (now (name .entry))) (now (dimensions .entry)) ⌝ }
+    ensures { λ r. ⌜ calls.«field::parse_field» (now (name .entry)) (now (dimensions .entry)) r (now (dimensions .exit)) ⌝ }
 {
     match scanned(name) {
         Scan::Plain(d) => ParsedField::Is(d),
@@ -440,7 +440,7 @@ fn elements(kind: FieldInfo) -> u64
 
 // How many bytes a field takes, with the size of its type and the pointer size of its file.
 pub fn width(d: Declarator, size: u64, pointer_size: PointerSize) -> FieldWidth
-    ensures { λ r. ⌜ rules.paperWidth r ≡ rules.widthAs d size «pointer_size» ⌝ }
+    ensures { λ r. ⌜ calls.«field::width» d size «pointer_size» r ⌝ }
 {
     let kind = d.kind;
     match times(Product::Is(unit(kind, size, pointer_size)), elements(kind)) {

@@ -3,3 +3,4 @@ pub mod Walk
 pub mod Past
 pub mod Seek
 pub mod Same
+pub mod Walks

@@ -1,24 +1,15 @@
--- What a step of a walker that holds its file says, and the search in a list of row records.
+-- The search in a list of row records, and the rows that a table of numbers spells.
 use Prim.Native.Nat.{ℕ, zero, suc, _+_, _/_}
 use mathlib.Core.Bool.{Bool, true, false}
 use mathlib.Core.List.{List, [], _∷_}
-use mathlib.Core.Path.{_≡_}
 use lib.Dec.{ltb, eqb}
 use lib.ListN.{length, getD}
 use Rattle.primitive.specs.Paper.{Paper}
 use Rattle.primitive.specs.Refusals.{notThere}
 use Rattle.blend.specs.declared.Row.{Row}
-use Rattle.blend.specs.declared.walker.Place.{Place}
-use Rattle.blend.specs.declared.walker.Step.{Step}
 use Rattle.runtime.specs.Addresses.{matches, null, seek}
 use Rattle.blend.specs.Chain.{perRow}
-use Rattle.blend.specs.Header.{headerBytes}
 use Rattle.runtime.specs.Views.{cell}
-use Rattle.blend.specs.Walker.{stepBy, paperStep, placeOf}
-
--- a step as the walker on plain parameters has it: the answer on paper, and the place that is handed back
-abbrev pub Stepped : List ℕ → Place → Step → Type 0
-Stepped s p r = (paperStep r ≡ stepBy headerBytes s p .answer) × (placeOf r ≡ stepBy headerBytes s p .place)
 
 -- whether a row is of a kind that is searched, and has this address
 abbrev pub rowIs : ℕ → Row → Bool

@@ -1,2 +1,4 @@
 -- The rules of the forms that hold references.
 pub mod Held
+pub mod Calls
+pub mod Walks

@@ -5,10 +5,7 @@ use blend::walker::Place;
 use blend::walker::Step;
 use runtime::runtime::Pointer;
 use runtime::runtime::matches;
-ghost use mathlib.Core.Path.{_≡_};
-ghost use Rattle.runtime.specs.Addresses.{paperPointer};
-ghost use Rattle.blend.specs.Walker.{start};
-ghost use Rattle.held.specs.Held.{Stepped, rowIs, lookupRows};
+ghost use Rattle.held.specs.Calls as calls;
 
 pub struct Walker<'a> {
     pub file: &'a [u8],
@@ -17,14 +14,14 @@ pub struct Walker<'a> {
 
 // The step on plain parameters.
 pub fn step_at(file: &[u8], place: Place) -> Step
-    ensures { λ r. ⌜ Stepped (now (file .entry)) place r ⌝ }
+    ensures { λ r. ⌜ calls.«step_at» (now (file .entry)) place r ⌝ }
 {
     place.step(file)
 }
 
 // A walker at the start of a file.
 pub fn over<'a>(file: &'a [u8]) -> Walker<'a>
-    ensures { λ r. ⌜ (r .file ≡ file .entry) × (r .place ≡ start) ⌝ }
+    ensures { λ r. ⌜ calls.«over» (file .entry) r ⌝ }
 {
     Walker {
         file,
@@ -34,14 +31,14 @@ pub fn over<'a>(file: &'a [u8]) -> Walker<'a>
 
 // A step from where the walker stands.
 pub fn next<'a>(w: Walker<'a>) -> Step
-    ensures { λ r. ⌜ Stepped (now (w .entry .file)) (w .entry .place) r ⌝ }
+    ensures { λ r. ⌜ calls.«next» (w .entry) r ⌝ }
 {
     step_at(w.file, w.place)
 }
 
 // The walker at another place.
 pub fn moved<'a>(w: Walker<'a>, place: Place) -> Walker<'a>
-    ensures { λ r. ⌜ (r .file ≡ w .entry .file) × (r .place ≡ place) ⌝ }
+    ensures { λ r. ⌜ calls.«moved» (w .entry) place r ⌝ }
 {
     Walker {
         file: w.file,
@@ -51,21 +48,21 @@ pub fn moved<'a>(w: Walker<'a>, place: Place) -> Walker<'a>
 
 // The step of a walker over a file at a place: plain parameters, for callers that hold no walker.
 pub fn step_from(file: &[u8], place: Place) -> Step
-    ensures { λ r. ⌜ Stepped (now (file .entry)) place r ⌝ }
+    ensures { λ r. ⌜ calls.«step_from» (now (file .entry)) place r ⌝ }
 {
     next(moved(over(file), place))
 }
 
 // Whether a row is one that the address leads to.
 pub fn row_is(row: Row, address: u64) -> bool
-    ensures { λ r. ⌜ r ≡ rowIs address row ⌝ }
+    ensures { λ r. ⌜ calls.«row_is» row address r ⌝ }
 {
     matches(address, row.code, row.address)
 }
 
 // The first of the first n rows that the address leads to.
 pub fn find_row(rows: &[Row], n: usize, address: u64) -> Pointer
-    ensures { λ r. ⌜ paperPointer r ≡ lookupRows (now (rows .entry)) n address ⌝ }
+    ensures { λ r. ⌜ calls.«find_row» (now (rows .entry)) n address r ⌝ }
 {
     if rows.len() < n {
         return Pointer::NotThere;
@@ -85,7 +82,7 @@ pub fn find_row(rows: &[Row], n: usize, address: u64) -> Pointer
 
 // The same for four rows by value: the one function here that lends them, for callers that hold no slice of rows.
 pub fn find_in(rows: [Row; 4], n: usize, address: u64) -> Pointer
-    ensures { λ r. ⌜ paperPointer r ≡ lookupRows rows n address ⌝ }
+    ensures { λ r. ⌜ calls.«find_in» rows n address r ⌝ }
 {
     find_row(&rows, n, address)
 }

@@ -5,6 +5,7 @@ pub mod Times
 pub mod Onward
 pub mod Same
 pub mod Unaltered
+pub mod Refusing
 pub mod Extent
 pub mod Digits
 pub mod Marks

@@ -12,12 +12,12 @@ use lib.ListN.{length, take, drop, length-take, length-drop}
 use lib.Seq.{take-take}
 use Rattle.primitive.specs.declared.Endianness.{Endianness}
 use Rattle.primitive.specs.Helpers.{numberAt}
-use Rattle.primitive.specs.Number.{spelled}
+use Rattle.primitive.specs.Number.{Bytes, spelled}
 use Rattle.primitive.specs.Paper.{Paper}
 use Rattle.primitive.specs.Paper.Paper.{accepts, real, refuses}
 use Rattle.primitive.specs.Primitive.{valueOf, unsigned, float}
 use Rattle.primitive.proofs.Tests.{held, failed}
-use Rattle.primitive.proofs.Digits.{Bytes, spelled-lt}
+use Rattle.primitive.proofs.Digits.{spelled-lt}
 
 module _ (width : ℕ) (kind : ℕ → Paper) (e : Endianness) (s : List ℕ) where
   -- a slice that is too short, and one that is not

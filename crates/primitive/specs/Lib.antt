@@ -10,3 +10,4 @@ pub mod PointerSize
 pub mod Primitive
 pub mod Cursor
 pub mod Helpers
+pub mod Calls

@@ -1,14 +1,18 @@
 -- Numbers as bytes spell them, in either order, and the two reads that go by what the bytes are: a number, and a mark.
-use Prim.Native.Nat.{ℕ, _+_, _*_, _-_, _^_}
+use Prim.Native.Nat.{ℕ, _+_, _*_, _-_, _^_, _<_}
 use mathlib.Core.Bool.{true, false}
 use mathlib.Core.List.{List, [], _∷_, reverse}
 use lib.Dec.{ltb}
 use lib.IntN.{ℤ, pos, subℕ}
-use lib.ListN.{length}
+use lib.ListN.{length, getD}
 use Rattle.primitive.specs.declared.Endianness.{Endianness}
 use Rattle.primitive.specs.declared.Endianness.the-variants.{Little, Big}
 use Rattle.primitive.specs.Reader.{Reader, same}
 use Rattle.primitive.specs.Reader.Reader.{bytes, stray}
+
+-- each element is a byte, as it is in a slice of bytes
+abbrev pub Bytes : List ℕ → Type 0
+Bytes l = (i : ℕ) → getD l i 0 < 256
 
 -- the number that bytes spell with the least significant byte first
 abbrev pub little : List ℕ → ℕ

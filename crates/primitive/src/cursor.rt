@@ -4,14 +4,11 @@ use crate::Endianness;
 use crate::Fault;
 use crate::number::number;
 ghost use mathlib.Core.Path.{_≡_};
-ghost use mathlib.Core.Bool.{true, false};
 ghost use Prim.Native.Nat.{_+_, _≤_};
 ghost use lib.ListN.{length, drop};
-ghost use Rattle.primitive.specs.Reader.{run, room, stands};
-ghost use Rattle.primitive.specs.Reader.Reader.{done, bytes, skip, string, begins};
-ghost use Rattle.primitive.specs.Number as numbers;
 ghost use Rattle.primitive.specs.Reader as rules;
-ghost use Rattle.primitive.specs.Cursor.{widthOf, numbered, moved, counted, begun, partOf};
+ghost use Rattle.primitive.specs.Reader.{room};
+ghost use Rattle.primitive.specs.Calls as calls;
 
 pub struct Cursor {
     pub at: usize,
@@ -27,7 +24,7 @@ pub enum Width {
 
 impl Width {
     pub fn bytes_num(self) -> usize
-        ensures { λ r. ⌜ r ≡ widthOf self ⌝ }
+        ensures { λ r. ⌜ calls.«cursor::Width::bytes_num» self r ⌝ }
     {
         match self {
             Width::One => 1,
@@ -74,7 +71,7 @@ fn has(s: &[u8], at: usize, n: usize) -> bool
 
 // Whether the bytes m stand at this place.
 pub fn stands_at(s: &[u8], at: usize, m: &[u8]) -> bool
-    ensures { λ r. ⌜ r ≡ stands (now (s .entry)) at (now (m .entry)) ⌝ }
+    ensures { λ r. ⌜ calls.«cursor::stands_at» (now (s .entry)) at (now (m .entry)) r ⌝ }
 {
     let n = m.len();
     if n == 0 {
@@ -141,21 +138,21 @@ fn place_from(s: &[u8], c: u8, from: usize) -> usize
 
 // How many bytes stand before the first that is c; all of them where there is none.
 pub fn before(s: &[u8], c: u8) -> usize
-    ensures { λ r. ⌜ r ≡ rules.before c (now (s .entry)) ⌝ }
+    ensures { λ r. ⌜ calls.«cursor::before» (now (s .entry)) c r ⌝ }
 {
     place_from(s, c, 0)
 }
 
 impl Cursor {
     pub fn new(at: usize) -> Self
-        ensures { λ r. ⌜ r .at ≡ at ⌝ }
+        ensures { λ r. ⌜ calls.«cursor::Cursor::new» at r ⌝ }
     {
         Cursor { at }
     }
 
     // A number of a width and an order.
     pub fn number(self, s: &[u8], width: Width, order: Endianness) -> Numbered
-        ensures { λ r. ⌜ numbered r ≡ run (numbers.number order (widthOf width) done) (now (s .entry)) (self .at) ⌝ }
+        ensures { λ r. ⌜ calls.«cursor::Cursor::number» self (now (s .entry)) width order r ⌝ }
     {
         let at = self.at;
         let n = width.bytes_num();
@@ -169,7 +166,7 @@ impl Cursor {
 
     // The next n bytes, whatever they hold.
     pub fn skip(self, s: &[u8], n: usize) -> Moved
-        ensures { λ r. ⌜ moved r ≡ run (skip n (done tt)) (now (s .entry)) (self .at) ⌝ }
+        ensures { λ r. ⌜ calls.«cursor::Cursor::skip» self (now (s .entry)) n r ⌝ }
     {
         let at = self.at;
         if has(s, at, n) {
@@ -181,14 +178,14 @@ impl Cursor {
 
     // The next n bytes, for a caller that looks at them.
     pub fn bytes(self, s: &[u8], n: usize) -> Moved
-        ensures { λ r. ⌜ moved r ≡ run (bytes n (λ b. done tt)) (now (s .entry)) (self .at) ⌝ }
+        ensures { λ r. ⌜ calls.«cursor::Cursor::bytes» self (now (s .entry)) n r ⌝ }
     {
         self.skip(s, n)
     }
 
     // The next n bytes themselves, or none where they are not there.
     pub fn part<'a>(self, s: &'a [u8], n: usize) -> &'a [u8]
-        ensures { λ r. ⌜ now r ≡ partOf (now (s .entry)) (self .at) n ⌝ }
+        ensures { λ r. ⌜ calls.«cursor::Cursor::part» self (now (s .entry)) n (now r) ⌝ }
     {
         let at = self.at;
         if has(s, at, n) {
@@ -200,7 +197,7 @@ impl Cursor {
 
     // These very bytes.
     pub fn mark(self, s: &[u8], m: &[u8]) -> Moved
-        ensures { λ r. ⌜ moved r ≡ run (numbers.tag (now (m .entry)) (done tt)) (now (s .entry)) (self .at) ⌝ }
+        ensures { λ r. ⌜ calls.«cursor::Cursor::mark» self (now (s .entry)) (now (m .entry)) r ⌝ }
     {
         let at = self.at;
         let n = m.len();
@@ -217,7 +214,7 @@ impl Cursor {
 
     // Past these bytes where they are next; where they are not, the same place.
     pub fn begins(self, s: &[u8], m: &[u8]) -> Begun
-        ensures { λ r. ⌜ begun r ≡ run (begins (now (m .entry)) (done true) (done false)) (now (s .entry)) (self .at) ⌝ }
+        ensures { λ r. ⌜ calls.«cursor::Cursor::begins» self (now (s .entry)) (now (m .entry)) r ⌝ }
     {
         let at = self.at;
         if stands_at(s, at, m) {
@@ -235,7 +232,7 @@ impl Cursor {
 
     // The bytes up to the next zero, and the zero.
     pub fn string(self, s: &[u8]) -> Counted
-        ensures { λ r. ⌜ counted r ≡ run (string done) (now (s .entry)) (self .at) ⌝ }
+        ensures { λ r. ⌜ calls.«cursor::Cursor::string» self (now (s .entry)) r ⌝ }
     {
         let at = self.at;
         if s.len() <= at {

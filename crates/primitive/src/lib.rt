@@ -4,7 +4,7 @@ mod number;
 pub mod primitive;
 
 ghost use mathlib.Core.Path.{_≡_};
-ghost use Rattle.primitive.specs.PointerSize.{pointerBytes};
+ghost use Rattle.primitive.specs.Calls as calls;
 
 /// Size of a pointer on the machine used to create the .blend file.
 pub enum PointerSize {
@@ -19,7 +19,7 @@ impl PointerSize {
 
     /// Returns the pointer size in bytes.
     pub fn bytes_num(self) -> usize
-        ensures { λ r. ⌜ r ≡ pointerBytes self ⌝ }
+        ensures { λ r. ⌜ calls.«PointerSize::bytes_num» self r ⌝ }
         ensures constants { λ _. do ⌜ ((← ⟦PointerSize::BYTES_32⟧ .entry) ≡ 4) × ((← ⟦PointerSize::BYTES_64⟧ .entry) ≡ 8) ⌝ }
     {
         match self {

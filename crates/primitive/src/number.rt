@@ -2,11 +2,11 @@
 use crate::Endianness;
 use crate::cursor::Width;
 ghost use mathlib.Core.Path.{_≡_};
-ghost use mathlib.Core.List.{[], _∷_};
-ghost use Prim.Native.Nat.{_≤_, _<_, _^_};
+ghost use Prim.Native.Nat.{_+_, _*_, _^_, _≤_, _<_};
 ghost use lib.ListN.{length, take};
+ghost use Rattle.primitive.specs.declared.Endianness.{Endianness as Order};
 ghost use Rattle.primitive.specs.Cursor.{widthOf};
-ghost use Rattle.primitive.specs.Number.{little, spelled, twos};
+ghost use Rattle.primitive.specs.Number.{spelled, twos};
 
 fn wide(b: u8) -> u64
     ensures { λ r. ⌜ r ≡ b ⌝ }
@@ -14,27 +14,31 @@ fn wide(b: u8) -> u64
     b as u64
 }
 
-// The number of two bytes, and of four, the least significant first.
-fn two(a: u8, b: u8) -> u64
-    ensures { λ r. ⌜ (r ≡ little (a ∷ b ∷ [])) × (r < 2 ^ 16) ⌝ }
+// One byte, which spells the same number in both orders.
+fn one_byte(p: &[u8]) -> u64
+    requires { ⌜ length (now p) ≡ 1 ⌝ }
+    ensures { λ r. ⌜ ((e : Order) → r ≡ spelled e (now (p .entry))) ⌝ }
 {
-    wide(a) + wide(b) * 0x100
+    wide(p[0])
 }
 
-fn four(a: u8, b: u8, c: u8, d: u8) -> u64
-    ensures { λ r. ⌜ (r ≡ little (a ∷ b ∷ c ∷ d ∷ [])) × (r < 2 ^ 32) ⌝ }
+// A number of its two halves, of which `high` has the more significant bytes: `base` is how many numbers a half can be. Two, four and eight bytes are read by this.
+fn joined(low: u64, high: u64, base: u64) -> u64
+    requires { ⌜ (low < base) × (high < base) × (base * base ≤ 2 ^ 64) ⌝ }
+    ensures { λ r. ⌜ r ≡ low + high * base ⌝ }
 {
-    two(a, b) + two(c, d) * 0x1_0000
+    low + high * base
 }
 
-// The number that two bytes spell, and four, and eight. There is no loop in them: a compiler makes them one load.
+// The number that two bytes spell, and four, and eight, each by its halves. There is no loop, and the order is settled before a byte is read: so a compiler makes
+// each one load.
 fn two_bytes(p: &[u8], order: Endianness) -> u64
     requires { ⌜ length (now p) ≡ 2 ⌝ }
     ensures { λ r. ⌜ r ≡ spelled order (now (p .entry)) ⌝ }
 {
     match order {
-        Endianness::Little => two(p[0], p[1]),
-        Endianness::Big => two(p[1], p[0]),
+        Endianness::Little => joined(one_byte(&p[..1]), one_byte(&p[1..]), 0x100),
+        Endianness::Big => joined(one_byte(&p[1..]), one_byte(&p[..1]), 0x100),
     }
 }
 
@@ -43,8 +47,16 @@ fn four_bytes(p: &[u8], order: Endianness) -> u64
     ensures { λ r. ⌜ r ≡ spelled order (now (p .entry)) ⌝ }
 {
     match order {
-        Endianness::Little => four(p[0], p[1], p[2], p[3]),
-        Endianness::Big => four(p[3], p[2], p[1], p[0]),
+        Endianness::Little => joined(
+            two_bytes(&p[..2], Endianness::Little),
+            two_bytes(&p[2..], Endianness::Little),
+            0x1_0000,
+        ),
+        Endianness::Big => joined(
+            two_bytes(&p[2..], Endianness::Big),
+            two_bytes(&p[..2], Endianness::Big),
+            0x1_0000,
+        ),
     }
 }
 
@@ -53,12 +65,16 @@ fn eight_bytes(p: &[u8], order: Endianness) -> u64
     ensures { λ r. ⌜ r ≡ spelled order (now (p .entry)) ⌝ }
 {
     match order {
-        Endianness::Little => {
-            four(p[0], p[1], p[2], p[3]) + four(p[4], p[5], p[6], p[7]) * 0x1_0000_0000
-        }
-        Endianness::Big => {
-            four(p[7], p[6], p[5], p[4]) + four(p[3], p[2], p[1], p[0]) * 0x1_0000_0000
-        }
+        Endianness::Little => joined(
+            four_bytes(&p[..4], Endianness::Little),
+            four_bytes(&p[4..], Endianness::Little),
+            0x1_0000_0000,
+        ),
+        Endianness::Big => joined(
+            four_bytes(&p[4..], Endianness::Big),
+            four_bytes(&p[..4], Endianness::Big),
+            0x1_0000_0000,
+        ),
     }
 }
 
@@ -68,7 +84,7 @@ pub(crate) fn number(part: &[u8], width: Width, order: Endianness) -> u64
     ensures { λ r. ⌜ r ≡ spelled order (now (part .entry)) ⌝ }
 {
     match width {
-        Width::One => wide(part[0]),
+        Width::One => one_byte(part),
         Width::Two => two_bytes(part, order),
         Width::Four => four_bytes(part, order),
         Width::Eight => eight_bytes(part, order),

@@ -7,10 +7,7 @@ use crate::number::signed8;
 use crate::number::signed16;
 use crate::number::signed32;
 use crate::number::signed64;
-ghost use mathlib.Core.Path.{_≡_};
-ghost use lib.Ieee.{binary32, binary64};
-ghost use Rattle.primitive.specs.Primitive.{valueOf, unsigned, signed, float, paperU8, paperU16, paperU32, paperU64, paperI8, paperI16, paperI32, paperI64, paperF32, paperF64, named};
-ghost use Rattle.primitive.specs.Ascii.{ascii};
+ghost use Rattle.primitive.specs.Calls as calls;
 
 pub enum ValueU8 {
     Is(u8),
@@ -67,7 +64,7 @@ pub enum ValueF64 {
 }
 
 pub fn parse_u8(slice: &[u8], endianness: Endianness) -> ValueU8
-    ensures { λ r. ⌜ paperU8 r ≡ valueOf 1 unsigned endianness (now (slice .entry)) ⌝ }
+    ensures { λ r. ⌜ calls.«primitive::parse_u8» (now (slice .entry)) endianness r ⌝ }
 {
     if slice.len() < 1 {
         return ValueU8::Short;
@@ -76,7 +73,7 @@ pub fn parse_u8(slice: &[u8], endianness: Endianness) -> ValueU8
 }
 
 pub fn parse_u16(slice: &[u8], endianness: Endianness) -> ValueU16
-    ensures { λ r. ⌜ paperU16 r ≡ valueOf 2 unsigned endianness (now (slice .entry)) ⌝ }
+    ensures { λ r. ⌜ calls.«primitive::parse_u16» (now (slice .entry)) endianness r ⌝ }
 {
     if slice.len() < 2 {
         return ValueU16::Short;
@@ -85,7 +82,7 @@ pub fn parse_u16(slice: &[u8], endianness: Endianness) -> ValueU16
 }
 
 pub fn parse_u32(slice: &[u8], endianness: Endianness) -> ValueU32
-    ensures { λ r. ⌜ paperU32 r ≡ valueOf 4 unsigned endianness (now (slice .entry)) ⌝ }
+    ensures { λ r. ⌜ calls.«primitive::parse_u32» (now (slice .entry)) endianness r ⌝ }
 {
     if slice.len() < 4 {
         return ValueU32::Short;
@@ -94,7 +91,7 @@ pub fn parse_u32(slice: &[u8], endianness: Endianness) -> ValueU32
 }
 
 pub fn parse_u64(slice: &[u8], endianness: Endianness) -> ValueU64
-    ensures { λ r. ⌜ paperU64 r ≡ valueOf 8 unsigned endianness (now (slice .entry)) ⌝ }
+    ensures { λ r. ⌜ calls.«primitive::parse_u64» (now (slice .entry)) endianness r ⌝ }
 {
     if slice.len() < 8 {
         return ValueU64::Short;
@@ -104,13 +101,13 @@ pub fn parse_u64(slice: &[u8], endianness: Endianness) -> ValueU64
 
 // A character is its byte.
 pub fn parse_char(slice: &[u8], endianness: Endianness) -> ValueU8
-    ensures { λ r. ⌜ paperU8 r ≡ valueOf 1 unsigned endianness (now (slice .entry)) ⌝ }
+    ensures { λ r. ⌜ calls.«primitive::parse_char» (now (slice .entry)) endianness r ⌝ }
 {
     parse_u8(slice, endianness)
 }
 
 pub fn parse_i8(slice: &[u8], endianness: Endianness) -> ValueI8
-    ensures { λ r. ⌜ paperI8 r ≡ valueOf 1 (signed 8) endianness (now (slice .entry)) ⌝ }
+    ensures { λ r. ⌜ calls.«primitive::parse_i8» (now (slice .entry)) endianness r ⌝ }
 {
     let ValueU8::Is(n) = parse_u8(slice, endianness) else {
         return ValueI8::Short;
@@ -119,7 +116,7 @@ pub fn parse_i8(slice: &[u8], endianness: Endianness) -> ValueI8
 }
 
 pub fn parse_i16(slice: &[u8], endianness: Endianness) -> ValueI16
-    ensures { λ r. ⌜ paperI16 r ≡ valueOf 2 (signed 16) endianness (now (slice .entry)) ⌝ }
+    ensures { λ r. ⌜ calls.«primitive::parse_i16» (now (slice .entry)) endianness r ⌝ }
 {
     let ValueU16::Is(n) = parse_u16(slice, endianness) else {
         return ValueI16::Short;
@@ -128,7 +125,7 @@ pub fn parse_i16(slice: &[u8], endianness: Endianness) -> ValueI16
 }
 
 pub fn parse_i32(slice: &[u8], endianness: Endianness) -> ValueI32
-    ensures { λ r. ⌜ paperI32 r ≡ valueOf 4 (signed 32) endianness (now (slice .entry)) ⌝ }
+    ensures { λ r. ⌜ calls.«primitive::parse_i32» (now (slice .entry)) endianness r ⌝ }
 {
     let ValueU32::Is(n) = parse_u32(slice, endianness) else {
         return ValueI32::Short;
@@ -137,7 +134,7 @@ pub fn parse_i32(slice: &[u8], endianness: Endianness) -> ValueI32
 }
 
 pub fn parse_i64(slice: &[u8], endianness: Endianness) -> ValueI64
-    ensures { λ r. ⌜ paperI64 r ≡ valueOf 8 (signed 64) endianness (now (slice .entry)) ⌝ }
+    ensures { λ r. ⌜ calls.«primitive::parse_i64» (now (slice .entry)) endianness r ⌝ }
 {
     let ValueU64::Is(n) = parse_u64(slice, endianness) else {
         return ValueI64::Short;
@@ -146,7 +143,7 @@ pub fn parse_i64(slice: &[u8], endianness: Endianness) -> ValueI64
 }
 
 pub fn parse_f32(slice: &[u8], endianness: Endianness) -> ValueF32
-    ensures { λ r. ⌜ paperF32 r ≡ valueOf 4 (float binary32) endianness (now (slice .entry)) ⌝ }
+    ensures { λ r. ⌜ calls.«primitive::parse_f32» (now (slice .entry)) endianness r ⌝ }
 {
     let ValueU32::Is(n) = parse_u32(slice, endianness) else {
         return ValueF32::Short;
@@ -158,7 +155,7 @@ pub fn parse_f32(slice: &[u8], endianness: Endianness) -> ValueF32
 }
 
 pub fn parse_f64(slice: &[u8], endianness: Endianness) -> ValueF64
-    ensures { λ r. ⌜ paperF64 r ≡ valueOf 8 (float binary64) endianness (now (slice .entry)) ⌝ }
+    ensures { λ r. ⌜ calls.«primitive::parse_f64» (now (slice .entry)) endianness r ⌝ }
 {
     let ValueU64::Is(n) = parse_u64(slice, endianness) else {
         return ValueF64::Short;
@@ -176,7 +173,7 @@ pub struct Name {
 }
 
 pub fn blender_name_char() -> Name
-    ensures { λ r. ⌜ r ≡ named (ascii "char") ⌝ }
+    ensures { λ r. ⌜ calls.«primitive::blender_name_char» r ⌝ }
 {
     Name {
         bytes: [b'c', b'h', b'a', b'r', 0, 0, 0, 0],
@@ -185,7 +182,7 @@ pub fn blender_name_char() -> Name
 }
 
 pub fn blender_name_i8() -> Name
-    ensures { λ r. ⌜ r ≡ named (ascii "char") ⌝ }
+    ensures { λ r. ⌜ calls.«primitive::blender_name_i8» r ⌝ }
 {
     Name {
         bytes: [b'c', b'h', b'a', b'r', 0, 0, 0, 0],
@@ -194,7 +191,7 @@ pub fn blender_name_i8() -> Name
 }
 
 pub fn blender_name_u8() -> Name
-    ensures { λ r. ⌜ r ≡ named (ascii "uchar") ⌝ }
+    ensures { λ r. ⌜ calls.«primitive::blender_name_u8» r ⌝ }
 {
     Name {
         bytes: [b'u', b'c', b'h', b'a', b'r', 0, 0, 0],
@@ -203,7 +200,7 @@ pub fn blender_name_u8() -> Name
 }
 
 pub fn blender_name_u16() -> Name
-    ensures { λ r. ⌜ r ≡ named (ascii "ushort") ⌝ }
+    ensures { λ r. ⌜ calls.«primitive::blender_name_u16» r ⌝ }
 {
     Name {
         bytes: [b'u', b's', b'h', b'o', b'r', b't', 0, 0],
@@ -212,7 +209,7 @@ pub fn blender_name_u16() -> Name
 }
 
 pub fn blender_name_i16() -> Name
-    ensures { λ r. ⌜ r ≡ named (ascii "short") ⌝ }
+    ensures { λ r. ⌜ calls.«primitive::blender_name_i16» r ⌝ }
 {
     Name {
         bytes: [b's', b'h', b'o', b'r', b't', 0, 0, 0],
@@ -221,7 +218,7 @@ pub fn blender_name_i16() -> Name
 }
 
 pub fn blender_name_i32() -> Name
-    ensures { λ r. ⌜ r ≡ named (ascii "int") ⌝ }
+    ensures { λ r. ⌜ calls.«primitive::blender_name_i32» r ⌝ }
 {
     Name {
         bytes: [b'i', b'n', b't', 0, 0, 0, 0, 0],
@@ -230,7 +227,7 @@ pub fn blender_name_i32() -> Name
 }
 
 pub fn blender_name_u32() -> Name
-    ensures { λ r. ⌜ r ≡ named (ascii "ulong") ⌝ }
+    ensures { λ r. ⌜ calls.«primitive::blender_name_u32» r ⌝ }
 {
     Name {
         bytes: [b'u', b'l', b'o', b'n', b'g', 0, 0, 0],
@@ -239,7 +236,7 @@ pub fn blender_name_u32() -> Name
 }
 
 pub fn blender_name_f32() -> Name
-    ensures { λ r. ⌜ r ≡ named (ascii "float") ⌝ }
+    ensures { λ r. ⌜ calls.«primitive::blender_name_f32» r ⌝ }
 {
     Name {
         bytes: [b'f', b'l', b'o', b'a', b't', 0, 0, 0],
@@ -248,7 +245,7 @@ pub fn blender_name_f32() -> Name
 }
 
 pub fn blender_name_f64() -> Name
-    ensures { λ r. ⌜ r ≡ named (ascii "double") ⌝ }
+    ensures { λ r. ⌜ calls.«primitive::blender_name_f64» r ⌝ }
 {
     Name {
         bytes: [b'd', b'o', b'u', b'b', b'l', b'e', 0, 0],
@@ -257,7 +254,7 @@ pub fn blender_name_f64() -> Name
 }
 
 pub fn blender_name_u64() -> Name
-    ensures { λ r. ⌜ r ≡ named (ascii "uint64_t") ⌝ }
+    ensures { λ r. ⌜ calls.«primitive::blender_name_u64» r ⌝ }
 {
     Name {
         bytes: [b'u', b'i', b'n', b't', b'6', b'4', b'_', b't'],
@@ -266,7 +263,7 @@ pub fn blender_name_u64() -> Name
 }
 
 pub fn blender_name_i64() -> Name
-    ensures { λ r. ⌜ r ≡ named (ascii "int64_t") ⌝ }
+    ensures { λ r. ⌜ calls.«primitive::blender_name_i64» r ⌝ }
 {
     Name {
         bytes: [b'i', b'n', b't', b'6', b'4', b'_', b't', 0],

@@ -10,6 +10,7 @@ ghost use lib.ListN.{length};
 ghost use Rattle.blend.specs.Chain.{perRow};
 ghost use Rattle.runtime.specs.Views as views;
 ghost use Rattle.runtime.specs.Addresses as addresses;
+ghost use Rattle.runtime.specs.Calls as calls;
 
 pub enum ViewAnswer {
     There,
@@ -27,7 +28,7 @@ fn cell(table: &[u64], row: usize, i: usize) -> u64
 
 // Whether the table has the row and the file the part that it tells of.
 pub fn view(file: &[u8], table: &[u64], row: usize) -> ViewAnswer
-    ensures { λ r. ⌜ views.paperView r ≡ views.viewAs (now (file .entry)) (now (table .entry)) row ⌝ }
+    ensures { λ r. ⌜ calls.«runtime::view» (now (file .entry)) (now (table .entry)) row r ⌝ }
 {
     if row < table.len() / Row::NUMBERS {
         let payload = Cursor {
@@ -44,7 +45,7 @@ pub fn view(file: &[u8], table: &[u64], row: usize) -> ViewAnswer
 
 // The part itself, empty where there is none.
 pub fn view_part<'a>(file: &'a [u8], table: &[u64], row: usize) -> &'a [u8]
-    ensures { λ r. ⌜ now r ≡ views.partAs (now (file .entry)) (now (table .entry)) row ⌝ }
+    ensures { λ r. ⌜ calls.«runtime::view_part» (now (file .entry)) (now (table .entry)) row (now r) ⌝ }
 {
     if row < table.len() / Row::NUMBERS {
         let payload = Cursor {
@@ -82,7 +83,7 @@ fn is_found(kind: Kind) -> bool
 
 // Whether a row with this code and this address answers the search.
 pub fn matches(wanted: u64, code: u64, address: u64) -> bool
-    ensures { λ r. ⌜ r ≡ addresses.matches wanted code address ⌝ }
+    ensures { λ r. ⌜ calls.«runtime::matches» wanted code address r ⌝ }
 {
     if is_found(Kind::of_code(code)) {
         address == wanted
@@ -93,7 +94,7 @@ pub fn matches(wanted: u64, code: u64, address: u64) -> bool
 
 // The first of the table's first rows that has the address and is a Principal or a Subsidiary.
 pub fn get_ptr(table: &[u64], rows: usize, address: u64) -> Pointer
-    ensures { λ r. ⌜ addresses.paperPointer r ≡ addresses.lookupAs (now (table .entry)) rows address ⌝ }
+    ensures { λ r. ⌜ calls.«runtime::get_ptr» (now (table .entry)) rows address r ⌝ }
 {
     if table.len() / Row::NUMBERS < rows {
         return Pointer::NotThere;
@@ -133,7 +134,7 @@ fn has_code(kind: Kind) -> bool
 
 // The code that a row's code number stands for.
 pub fn code(number: u64) -> BlockCode
-    ensures { λ r. ⌜ addresses.paperCode r ≡ addresses.codeAs number ⌝ }
+    ensures { λ r. ⌜ calls.«runtime::code» number r ⌝ }
 {
     if has_code(Kind::of_code(number)) {
         BlockCode::Is(

@@ -4,7 +4,7 @@
 use Rattle.held.proofs.Walk.{_≡_, refl, [], _∷_, Holds, length, URA, named, Val, WT, hasTy, SProp, ent, sep, emp, via, fst∗, snd∗, exE, id⊢, Lft, Share, Fml, ftrue, flft, Memory, Routine, Heap, Calls, Loops, WpFn, Tables, Atoms, sem, Lfts, Fun, fact, givenOf, tables, tablesOf, Given, ‵, raw, _⊛_, given, ⋆, some, later, _$_, _∵_, !, qed, by, move, drop, use1, use2, split, join, learn, pick, fsplit, fjoin, suffices, frame, await, done, whole, sub, look-in, look, init, forget, stop, fld, from, load, of-opd, and-then, no-more, assigns, land, returns, enter, alloc1, alloc0, params1, pass1, pass0, free1, free0, FmC, fmOf, WpFn-mono, RattleType, owns, Is, shows, u8, now, namedLft, sliceVal, ShrSlice, peeks, heard, nothing, Declared, all-own, own-open, Values, Contract, Triple, calls-at, Vals, onEntry, Meets, tripleOf, entered, cited, says, Stays, stay-none, walkOf, goes-none, Walks, ends-at, walked, walk-meets, yes, ensured, lasts}
 use denote.Enum.Laws as EL
 use denote.Struct.Laws as LL
-use Rattle.held.specs.Held.{Stepped}
+use Rattle.held.specs.Calls.{«step_at»}
 use Rattle.held.specs.declared.Walker.{Walker}
 use Rattle.blend.specs.declared.walker.Step.{Step}
 use Rattle.held.proofs.Walker as T
@@ -44,7 +44,7 @@ module _ {M : Type 1} (𝓤 : URA M) (H : Heap 𝓤) (A : Atoms 𝓤) (W : Given
 
   -- what is said of a step
   abbrev Found : Step → Type 0
-  Found r = Stepped (now (d .file)) (d .place) r
+  Found r = «step_at» (now (d .file)) (d .place) r
 
   abbrev Post : Val → SProp 𝓤
   Post = walkOf 𝓤 H A next.ended stayed (next.clauses 𝓤 H A mem run) .post (((κ, tt), (q, tt), tt, (d, tt), (mach ∷ [], tt)), tt)

@@ -6,7 +6,7 @@ use denote.Struct.Laws as LL
 use Rattle.blend.specs.Walker.{start}
 use Rattle.blend.specs.declared.walker.Place.{Place}
 use Rattle.blend.specs.declared.walker.Step.{Step}
-use Rattle.held.specs.Held.{Stepped}
+use Rattle.held.specs.Calls.{«step_at»}
 use Rattle.held.specs.declared.Walker.{Walker}
 use Rattle.held.proofs.Walker as T
 use Rattle.held.proofs.Walker.Laws as T′
@@ -106,17 +106,17 @@ module _ {M : Type 1} (𝓤 : URA M) (H : Heap 𝓤) (A : Atoms 𝓤) (W : Given
   goes-next r u = qed W (‵ (B (κ, tt) .own r (u ∷ [])) ∷ (‵ (flft κ q) ⊛ ‵ ftrue) ∷ []) ∵ nothing ! $ move ! (1 ∷ 0 ∷ []) $ fjoin ! $ move ! (1 ∷ 0 ∷ []) $ join ! $ frame ! $ done !
 
   abbrev Found : Walker → Step → Type 0
-  Found r t = Stepped (now (r .file)) (r .place) t
+  Found r t = «step_at» (now (r .file)) (r .place) t
 
   next-said : (r : Walker) (t : Step) → ent 𝓤 (ensured 𝓤 H A next.ended (next.clauses 𝓤 H A mem run) (κ, tt) (r, tt) tt t) (fact 𝓤 (Found r t))
   next-said r t = exE 𝓤 _ (λ ws. snd∗ 𝓤 (sem 𝓤 H A (lasts next.ended (κ, tt) (r, tt) ws)) (fact 𝓤 (Found r t)))
 
   -- what is said of the last walker's step is said of the file and the place that were passed
-  same : (r w : Walker) (t : Step) → At-start r → There r w → Found w t → Stepped (now s) n t
+  same : (r w : Walker) (t : Step) → At-start r → There r w → Found w t → «step_at» (now s) n t
   same r w t e f g =
-      subst (λ (x : RefT (List ℕ)). Stepped (now x) n t) (f .0 ∙ e .0) (subst (λ (y : Place). Stepped (now (w .file)) y t) (f .1) g)
+      subst (λ (x : RefT (List ℕ)). «step_at» (now x) n t) (f .0 ∙ e .0) (subst (λ (y : Place). «step_at» (now (w .file)) y t) (f .1) g)
 
-  exits : (t : Step) (u : Val) → Stepped (now s) n t → ent 𝓤 (⋆ 𝓤 H A (‵ (S.the-row .own t (u ∷ [])) ∷ (‵ (flft κ q) ⊛ ‵ ftrue) ∷ ‵ Own ∷ [])) (Post u)
+  exits : (t : Step) (u : Val) → «step_at» (now s) n t → ent 𝓤 (⋆ 𝓤 H A (‵ (S.the-row .own t (u ∷ [])) ∷ (‵ (flft κ q) ⊛ ‵ ftrue) ∷ ‵ Own ∷ [])) (Post u)
   exits t u e =
       qed W (‵ (S.the-row .own t (u ∷ [])) ∷ (‵ (flft κ q) ⊛ ‵ ftrue) ∷ ‵ Own ∷ []) ∵
       suffices ! _ (ends-at 𝓤 H A step.ended stayed (step.clauses 𝓤 H A mem run) W (((κ, tt), (q, tt), tt, (s, (n, tt)), at), tt) u t (tt, (tt, tt)) (tt, (tt, tt))) $ says ! e $

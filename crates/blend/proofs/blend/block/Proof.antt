@@ -5,6 +5,7 @@ use denote.Ref.{now}
 use Rattle.primitive.specs.Cursor.{moved}
 use Rattle.blend.specs.Helpers.{taking, blockHeaderRead}
 use Rattle.blend.proofs.Rows.{row-no-header, row-no-payload, payload-fits, row-refused, row-read}
+use Rattle.blend.proofs.Lossless.{wholeKind}
 use borrow.Author.Needs.{needs}
 use Rattle.blend.proofs.blend.block.Statement.{statement}
 use Rattle.blend.proofs.blend.block.Tie as tie
@@ -55,10 +56,10 @@ returns-2 : tie.Need-returns-2
 returns-2 c = row-no-payload (c .before .before .before .before .before .before .before .before .before .args .h) (now (c .before .before .before .before .before .before .before .before .before .args .s)) _ _ _ (ap blockHeaderRead (sym (c .before .before .before .before .before .b .given .1)) ∙ c .before .before .before .before .before .before .before .block-header .ensures) _ (ap moved (sym (c .before .f2 .given .1)) ∙ c .before .before .before .skip .ensures)
 
 returns-3 : tie.Need-returns-3
-returns-3 c = row-refused (c .before .before .before .before .before .before .before .before .before .before .before .before .before .before .args .h) (now (c .before .before .before .before .before .before .before .before .before .before .before .before .before .before .args .s)) _ _ _ (ap blockHeaderRead (sym (c .before .before .before .before .before .before .before .before .before .before .b .given .1)) ∙ c .before .before .before .before .before .before .before .before .before .before .before .before .block-header .ensures) _ (ap moved (sym (c .before .before .before .before .before .before .next .given .1)) ∙ c .before .before .before .before .before .before .before .before .skip .ensures) _ (c .before .before .before .before .of-code .ensures) _ (ap taking (sym (c .before .n .given .1)) ∙ c .before .before .before .taken .ensures)
+returns-3 c = row-refused (c .before .before .before .before .before .before .before .before .before .before .before .before .before .before .args .h) (now (c .before .before .before .before .before .before .before .before .before .before .before .before .before .before .args .s)) _ _ _ (ap blockHeaderRead (sym (c .before .before .before .before .before .before .before .before .before .before .b .given .1)) ∙ c .before .before .before .before .before .before .before .before .before .before .before .before .block-header .ensures) _ (ap moved (sym (c .before .before .before .before .before .before .next .given .1)) ∙ c .before .before .before .before .before .before .before .before .skip .ensures) _ (wholeKind (c .before .before .before .before .of-code .result) _ (c .before .before .before .before .of-code .ensures)) _ (ap taking (sym (c .before .n .given .1)) ∙ c .before .before .before .taken .ensures)
 
 returns-4 : tie.Need-returns-4
-returns-4 c = row-read (c .before .before .before .before .before .before .before .before .before .before .before .before .before .before .before .before .args .h) (now (c .before .before .before .before .before .before .before .before .before .before .before .before .before .before .before .before .args .s)) _ _ _ (ap blockHeaderRead (sym (c .before .before .before .before .before .before .before .before .before .before .before .before .b .given .1)) ∙ c .before .before .before .before .before .before .before .before .before .before .before .before .before .before .block-header .ensures) _ (ap moved (sym (c .before .before .before .before .before .before .before .before .next .given .1)) ∙ c .before .before .before .before .before .before .before .before .before .before .skip .ensures) _ (c .before .before .before .before .before .before .of-code .ensures) (ap taking (sym (c .before .before .before .enum-told .given .1)) ∙ c .before .before .before .before .before .taken .ensures) _ (c .row-of .ensures ∙ rw (c .before .before .block-header-len .ensures .0) refl)
+returns-4 c = row-read (c .before .before .before .before .before .before .before .before .before .before .before .before .before .before .before .before .args .h) (now (c .before .before .before .before .before .before .before .before .before .before .before .before .before .before .before .before .args .s)) _ _ _ (ap blockHeaderRead (sym (c .before .before .before .before .before .before .before .before .before .before .before .before .b .given .1)) ∙ c .before .before .before .before .before .before .before .before .before .before .before .before .before .before .block-header .ensures) _ (ap moved (sym (c .before .before .before .before .before .before .before .before .next .given .1)) ∙ c .before .before .before .before .before .before .before .before .before .before .skip .ensures) _ (wholeKind (c .before .before .before .before .before .before .of-code .result) _ (c .before .before .before .before .before .before .of-code .ensures)) (ap taking (sym (c .before .before .before .enum-told .given .1)) ∙ c .before .before .before .before .before .taken .ensures) _ (c .row-of .ensures ∙ rw (c .before .before .block-header-len .ensures .0) refl)
 
 pub block-spec : {M : Type 1} → statement M
 block-spec =

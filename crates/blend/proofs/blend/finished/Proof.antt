@@ -2,6 +2,7 @@
 use native.Mathlib.Omega.{arith}
 use denote.Ref.{now}
 use Rattle.blend.proofs.Rows.{part-same, part-long, other-finished, dna-finished, dna-stopped, dna-placed}
+use Rattle.blend.proofs.Lossless.{wholeKind}
 use borrow.Author.Needs.{needs}
 use Rattle.blend.proofs.blend.finished.Statement.{statement}
 use Rattle.blend.proofs.blend.finished.Tie as tie
@@ -34,16 +35,16 @@ enum-known-f : tie.Need-enum-known-f
 enum-known-f c = search needs
 
 within-requires : tie.Need-within-requires
-within-requires c κs = (omega (arith, c .before .before .before .before .before .before .before .before .before .pre), dna-placed (c .before .before .before .before .before .before .before .before .before .args .h) (now (c .before .before .before .before .before .before .before .before .before .args .s)) (c .before .before .before .before .before .before .before .before .before .args .r) (c .before .before .before .before .before .before .before .before .before .args .next) _ (c .before .before .before .before .before .before .before .of-code .ensures) _ (c .before .before .before .before .before .before .is-dna .ensures) (c .before .before .before .before .before .if1 .taken) _ (part-same (now (c .before .before .before .before .before .before .before .before .before .args .s)) (c .before .before .before .before .before .before .before .before .before .args .r .payload) (c .before .before .before .before .before .before .before .before .before .args .r .len)) _ (c .before .before .before .dna-counts .ensures .1) _ (c .before .f .given .1) _ (part-long (now (c .before .before .before .before .before .before .before .before .before .args .s)) (c .before .before .before .before .before .before .before .before .before .args .r .payload) (c .before .before .before .before .before .before .before .before .before .args .r .len) (c .before .before .before .before .before .before .before .before .before .pre)))
+within-requires c κs = (omega (arith, c .before .before .before .before .before .before .before .before .before .pre), dna-placed (c .before .before .before .before .before .before .before .before .before .args .h) (now (c .before .before .before .before .before .before .before .before .before .args .s)) (c .before .before .before .before .before .before .before .before .before .args .r) (c .before .before .before .before .before .before .before .before .before .args .next) _ (wholeKind (c .before .before .before .before .before .before .before .of-code .result) _ (c .before .before .before .before .before .before .before .of-code .ensures)) _ (c .before .before .before .before .before .before .is-dna .ensures) (c .before .before .before .before .before .if1 .taken) _ (part-same (now (c .before .before .before .before .before .before .before .before .before .args .s)) (c .before .before .before .before .before .before .before .before .before .args .r .payload) (c .before .before .before .before .before .before .before .before .before .args .r .len)) _ (c .before .before .before .dna-counts .ensures .1) _ (c .before .f .given .1) _ (part-long (now (c .before .before .before .before .before .before .before .before .before .args .s)) (c .before .before .before .before .before .before .before .before .before .args .r .payload) (c .before .before .before .before .before .before .before .before .before .args .r .len) (c .before .before .before .before .before .before .before .before .before .pre)))
 
 returns : tie.Need-returns
-returns c = dna-finished (c .before .before .before .before .before .before .before .before .before .args .h) (now (c .before .before .before .before .before .before .before .before .before .args .s)) (c .before .before .before .before .before .before .before .before .before .args .r) (c .before .before .before .before .before .before .before .before .before .args .next) _ (c .before .before .before .before .before .before .before .of-code .ensures) _ (c .before .before .before .before .before .before .is-dna .ensures) (c .before .before .before .before .before .if1 .taken) _ (part-same (now (c .before .before .before .before .before .before .before .before .before .args .s)) (c .before .before .before .before .before .before .before .before .before .args .r .payload) (c .before .before .before .before .before .before .before .before .before .args .r .len)) _ (c .before .before .before .dna-counts .ensures .1) _ _ (c .before .n .given .1)
+returns c = dna-finished (c .before .before .before .before .before .before .before .before .before .args .h) (now (c .before .before .before .before .before .before .before .before .before .args .s)) (c .before .before .before .before .before .before .before .before .before .args .r) (c .before .before .before .before .before .before .before .before .before .args .next) _ (wholeKind (c .before .before .before .before .before .before .before .of-code .result) _ (c .before .before .before .before .before .before .before .of-code .ensures)) _ (c .before .before .before .before .before .before .is-dna .ensures) (c .before .before .before .before .before .if1 .taken) _ (part-same (now (c .before .before .before .before .before .before .before .before .before .args .s)) (c .before .before .before .before .before .before .before .before .before .args .r .payload) (c .before .before .before .before .before .before .before .before .before .args .r .len)) _ (c .before .before .before .dna-counts .ensures .1) _ _ (c .before .n .given .1)
 
 returns-2 : tie.Need-returns-2
-returns-2 c = dna-stopped (c .before .before .before .before .before .before .before .before .before .before .args .h) (now (c .before .before .before .before .before .before .before .before .before .before .args .s)) (c .before .before .before .before .before .before .before .before .before .before .args .r) (c .before .before .before .before .before .before .before .before .before .before .args .next) _ (c .before .before .before .before .before .before .before .before .of-code .ensures) _ (c .before .before .before .before .before .before .before .is-dna .ensures) (c .before .before .before .before .before .before .if1 .taken) _ (part-same (now (c .before .before .before .before .before .before .before .before .before .before .args .s)) (c .before .before .before .before .before .before .before .before .before .before .args .r .payload) (c .before .before .before .before .before .before .before .before .before .before .args .r .len)) _ (c .before .before .before .before .dna-counts .ensures .1) _ (c .before .before .f .given .1) _ (c .within .ensures)
+returns-2 c = dna-stopped (c .before .before .before .before .before .before .before .before .before .before .args .h) (now (c .before .before .before .before .before .before .before .before .before .before .args .s)) (c .before .before .before .before .before .before .before .before .before .before .args .r) (c .before .before .before .before .before .before .before .before .before .before .args .next) _ (wholeKind (c .before .before .before .before .before .before .before .before .of-code .result) _ (c .before .before .before .before .before .before .before .before .of-code .ensures)) _ (c .before .before .before .before .before .before .before .is-dna .ensures) (c .before .before .before .before .before .before .if1 .taken) _ (part-same (now (c .before .before .before .before .before .before .before .before .before .before .args .s)) (c .before .before .before .before .before .before .before .before .before .before .args .r .payload) (c .before .before .before .before .before .before .before .before .before .before .args .r .len)) _ (c .before .before .before .before .dna-counts .ensures .1) _ (c .before .before .f .given .1) _ (c .within .ensures)
 
 returns-3 : tie.Need-returns-3
-returns-3 c = other-finished (c .before .before .before .before .args .h) (now (c .before .before .before .before .args .s)) (c .before .before .before .before .args .r) (c .before .before .before .before .args .next) _ (c .before .before .of-code .ensures) _ (c .before .is-dna .ensures) (c .if1 .left)
+returns-3 c = other-finished (c .before .before .before .before .args .h) (now (c .before .before .before .before .args .s)) (c .before .before .before .before .args .r) (c .before .before .before .before .args .next) _ (wholeKind (c .before .before .of-code .result) _ (c .before .before .of-code .ensures)) _ (c .before .is-dna .ensures) (c .if1 .left)
 
 pub finished-spec : {M : Type 1} → statement M
 finished-spec =

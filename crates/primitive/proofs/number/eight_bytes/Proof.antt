@@ -1,8 +1,10 @@
--- `eight_bytes` reads the number of eight bytes in either order, as two of four.
-use denote.Ref.{now}
+-- `eight_bytes` reads by halves.
+use mathlib.Core.Path.{refl, sym, _∙_}
 use native.Mathlib.Omega.{arith}
+use denote.Ref.{now}
+use lib.Seq.{length-take-le}
 use Rattle.primitive.specs.declared.Endianness.the-variants.{Little, Big}
-use Rattle.primitive.proofs.Digits.{spelled-by}
+use Rattle.primitive.proofs.Digits.{halves-read, halves-below}
 use borrow.Author.Needs.{needs}
 use Rattle.primitive.proofs.number.eight_bytes.Statement.{statement}
 use Rattle.primitive.proofs.number.eight_bytes.Tie as tie
@@ -10,120 +12,86 @@ use Rattle.primitive.proofs.number.eight_bytes.Tie as tie
 enum-told : tie.Need-enum-told
 enum-told c = search needs
 
-shared-slice-read-four : tie.Need-shared-slice-read-four
-shared-slice-read-four c = search needs
+slice-aggregate-four-bytes : tie.Need-slice-aggregate-four-bytes
+slice-aggregate-four-bytes c = sym (length-take-le 4 (now (c .before .before .before .before .args .p)) (search needs))
 
-shared-slice-read-four-2 : tie.Need-shared-slice-read-four-2
-shared-slice-read-four-2 c = search needs
+four-bytes-requires : tie.Need-four-bytes-requires
+four-bytes-requires c κs = length-take-le 4 (now (c .before .before .before .before .args .p)) (search needs)
 
-shared-slice-read-four-3 : tie.Need-shared-slice-read-four-3
-shared-slice-read-four-3 c = search needs
+sub-four-bytes : tie.Need-sub-four-bytes
+sub-four-bytes c = search needs
 
-shared-slice-read-four-4 : tie.Need-shared-slice-read-four-4
-shared-slice-read-four-4 c = search needs
+part-four-bytes-start : tie.Need-part-four-bytes-start
+part-four-bytes-start c = search needs
 
-four-requires : tie.Need-four-requires
-four-requires c κs = search needs
+part-four-bytes-end : tie.Need-part-four-bytes-end
+part-four-bytes-end c = search needs
 
-shared-slice-read-four-5 : tie.Need-shared-slice-read-four-5
-shared-slice-read-four-5 c = search needs
+four-bytes-requires-2 : tie.Need-four-bytes-requires-2
+four-bytes-requires-2 c κs = search needs
 
-shared-slice-read-four-6 : tie.Need-shared-slice-read-four-6
-shared-slice-read-four-6 c = search needs
-
-shared-slice-read-four-7 : tie.Need-shared-slice-read-four-7
-shared-slice-read-four-7 c = search needs
-
-shared-slice-read-four-8 : tie.Need-shared-slice-read-four-8
-shared-slice-read-four-8 c = search needs
-
-four-requires-2 : tie.Need-four-requires-2
-four-requires-2 c κs = search needs
-
-mul-result : tie.Need-mul-result
-mul-result c = search needs
-
-add-result : tie.Need-add-result
-add-result c = search needs
+joined-requires : tie.Need-joined-requires
+joined-requires c κs =
+    let start = c .before .before .before .before .before .before .before in
+    let b = halves-below Little (now (start .args .p)) 4 _ (start .pre) refl (λ j. c .before .before .before .before .before .before .shared-slice-known .given j .fits) _ _ (c .before .before .four-bytes .ensures) (c .four-bytes2 .ensures) in
+    (b .0, b .1, omega arith)
 
 enum-told-2 : tie.Need-enum-told-2
 enum-told-2 c = search needs
 
-shared-slice-read-four-9 : tie.Need-shared-slice-read-four-9
-shared-slice-read-four-9 c = search needs
+sub-four-bytes-2 : tie.Need-sub-four-bytes-2
+sub-four-bytes-2 c = search needs
 
-shared-slice-read-four-10 : tie.Need-shared-slice-read-four-10
-shared-slice-read-four-10 c = search needs
+part-four-bytes-start-2 : tie.Need-part-four-bytes-start-2
+part-four-bytes-start-2 c = search needs
 
-shared-slice-read-four-11 : tie.Need-shared-slice-read-four-11
-shared-slice-read-four-11 c = search needs
+part-four-bytes-end-2 : tie.Need-part-four-bytes-end-2
+part-four-bytes-end-2 c = search needs
 
-shared-slice-read-four-12 : tie.Need-shared-slice-read-four-12
-shared-slice-read-four-12 c = search needs
+four-bytes-requires-3 : tie.Need-four-bytes-requires-3
+four-bytes-requires-3 c κs = search needs
 
-four-requires-3 : tie.Need-four-requires-3
-four-requires-3 c κs = search needs
+slice-aggregate-four-bytes-2 : tie.Need-slice-aggregate-four-bytes-2
+slice-aggregate-four-bytes-2 c = sym (length-take-le 4 (now (c .before .before .before .before .before .before .args .p)) (search needs))
 
-shared-slice-read-four-13 : tie.Need-shared-slice-read-four-13
-shared-slice-read-four-13 c = search needs
+four-bytes-requires-4 : tie.Need-four-bytes-requires-4
+four-bytes-requires-4 c κs = length-take-le 4 (now (c .before .before .before .before .before .before .args .p)) (search needs)
 
-shared-slice-read-four-14 : tie.Need-shared-slice-read-four-14
-shared-slice-read-four-14 c = search needs
-
-shared-slice-read-four-15 : tie.Need-shared-slice-read-four-15
-shared-slice-read-four-15 c = search needs
-
-shared-slice-read-four-16 : tie.Need-shared-slice-read-four-16
-shared-slice-read-four-16 c = search needs
-
-four-requires-4 : tie.Need-four-requires-4
-four-requires-4 c κs = search needs
-
-mul-result-2 : tie.Need-mul-result-2
-mul-result-2 c = search needs
-
-add-result-2 : tie.Need-add-result-2
-add-result-2 c = search needs
+joined-requires-2 : tie.Need-joined-requires-2
+joined-requires-2 c κs =
+    let start = c .before .before .before .before .before .before .before in
+    let b = halves-below Big (now (start .args .p)) 4 _ (start .pre) refl (λ j. c .before .before .before .before .before .before .shared-slice-known .given j .fits) _ _ (c .four-bytes4 .ensures) (c .before .before .four-bytes3 .ensures) in
+    (b .1, b .0, omega arith)
 
 returns : tie.Need-returns
 returns c =
-    let a = c .before .before .before .before .before .before .before .before .before .before .before .before .before .args in
-    rw (c .before .before .before .before .before .before .before .before .before .before .enum-told .given .1) (omega (arith, c .before .before .before .before .before .four .ensures .0, c .four2 .ensures .0, spelled-by Little (now (a .p)) 8 (c .before .before .before .before .before .before .before .before .before .before .before .before .before .pre)))
+    let start = c .before .before .before .before .before .before .before .before in
+    rw (c .before .before .before .before .before .enum-told .given .1) (c .joined .ensures ∙ halves-read Little (now (start .args .p)) 4 _ (start .pre) refl _ _ (c .before .before .before .four-bytes .ensures) (c .before .four-bytes2 .ensures))
 
 returns-2 : tie.Need-returns-2
 returns-2 c =
-    let a = c .before .before .before .before .before .before .before .before .before .before .before .before .before .args in
-    rw (c .before .before .before .before .before .before .before .before .before .before .enum-told2 .given .1) (omega (arith, c .before .before .before .before .before .four3 .ensures .0, c .four4 .ensures .0, spelled-by Big (now (a .p)) 8 (c .before .before .before .before .before .before .before .before .before .before .before .before .before .pre)))
+    let start = c .before .before .before .before .before .before .before .before in
+    rw (c .before .before .before .before .before .enum-told2 .given .1) (c .joined2 .ensures ∙ halves-read Big (now (start .args .p)) 4 _ (start .pre) refl _ _ (c .before .four-bytes4 .ensures) (c .before .before .before .four-bytes3 .ensures))
 
 pub eight-bytes-spec : {M : Type 1} → statement M
 eight-bytes-spec =
     tie.close
     (tie.spec
     enum-told
-    shared-slice-read-four
-    shared-slice-read-four-2
-    shared-slice-read-four-3
-    shared-slice-read-four-4
-    four-requires
-    shared-slice-read-four-5
-    shared-slice-read-four-6
-    shared-slice-read-four-7
-    shared-slice-read-four-8
-    four-requires-2
-    mul-result
-    add-result
+    slice-aggregate-four-bytes
+    four-bytes-requires
+    sub-four-bytes
+    part-four-bytes-start
+    part-four-bytes-end
+    four-bytes-requires-2
+    joined-requires
     enum-told-2
-    shared-slice-read-four-9
-    shared-slice-read-four-10
-    shared-slice-read-four-11
-    shared-slice-read-four-12
-    four-requires-3
-    shared-slice-read-four-13
-    shared-slice-read-four-14
-    shared-slice-read-four-15
-    shared-slice-read-four-16
-    four-requires-4
-    mul-result-2
-    add-result-2
+    sub-four-bytes-2
+    part-four-bytes-start-2
+    part-four-bytes-end-2
+    four-bytes-requires-3
+    slice-aggregate-four-bytes-2
+    four-bytes-requires-4
+    joined-requires-2
     returns
     returns-2)

@@ -3,7 +3,8 @@ use mathlib.Core.Path.{sym, _∙_}
 use denote.Ref.{now}
 use lib.Seq.{length-take-le}
 use Rattle.primitive.specs.Cursor.{widthOf}
-use Rattle.primitive.proofs.Digits.{Bytes, spelled-lt}
+use Rattle.primitive.specs.Number.{Bytes}
+use Rattle.primitive.proofs.Digits.{spelled-lt}
 use borrow.Author.Needs.{needs}
 use Rattle.primitive.proofs.number.first.Statement.{statement}
 use Rattle.primitive.proofs.number.first.Tie as tie

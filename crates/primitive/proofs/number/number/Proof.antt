@@ -1,9 +1,4 @@
 -- `number` reads all the bytes it is handed, as many as the width has.
-use mathlib.Core.Path.{_≡_, _∙_}
-use denote.Ref.{now}
-use native.Mathlib.Omega.{arith}
-use lib.ListN.{length}
-use Rattle.primitive.proofs.Digits.{one-spelled}
 use borrow.Author.Needs.{needs}
 use Rattle.primitive.proofs.number.number.Statement.{statement}
 use Rattle.primitive.proofs.number.number.Tie as tie
@@ -11,13 +6,8 @@ use Rattle.primitive.proofs.number.number.Tie as tie
 enum-told : tie.Need-enum-told
 enum-told c = search needs
 
-shared-slice-read-wide : tie.Need-shared-slice-read-wide
-shared-slice-read-wide c =
-    let w : length (now (c .before .before .before .before .args .part)) ≡ 1 = rw (c .before .enum-told .given .1) at (c .before .before .before .before .pre) in
-    omega arith
-
-wide-requires : tie.Need-wide-requires
-wide-requires c κs = search needs
+one-byte-requires : tie.Need-one-byte-requires
+one-byte-requires c κs = rw (c .enum-told .given .1) at (c .before .before .before .pre)
 
 enum-told-2 : tie.Need-enum-told-2
 enum-told-2 c = search needs
@@ -38,9 +28,7 @@ eight-bytes-requires : tie.Need-eight-bytes-requires
 eight-bytes-requires c κs = rw (c .enum-told4 .given .1) at (c .before .before .before .pre)
 
 returns : tie.Need-returns
-returns c =
-    let a = c .before .before .before .before .before .args in
-    c .wide .ensures ∙ one-spelled (a .order) (now (a .part)) (rw (c .before .before .enum-told .given .1) at (c .before .before .before .before .before .pre))
+returns c = c .one-byte .ensures (c .before .before .before .before .args .order)
 
 returns-2 : tie.Need-returns-2
 returns-2 c = search needs
@@ -56,8 +44,7 @@ number-spec =
     tie.close
     (tie.spec
     enum-told
-    shared-slice-read-wide
-    wide-requires
+    one-byte-requires
     enum-told-2
     two-bytes-requires
     enum-told-3

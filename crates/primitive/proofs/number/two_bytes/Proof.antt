@@ -1,8 +1,10 @@
--- `two_bytes` reads the number of two bytes in either order.
-use mathlib.Core.Path.{_∙_}
+-- `two_bytes` reads by halves.
+use mathlib.Core.Path.{refl, sym, _∙_}
+use native.Mathlib.Omega.{arith}
 use denote.Ref.{now}
+use lib.Seq.{length-take-le}
 use Rattle.primitive.specs.declared.Endianness.the-variants.{Little, Big}
-use Rattle.primitive.proofs.Digits.{spelled-by}
+use Rattle.primitive.proofs.Digits.{halves-read, halves-below}
 use borrow.Author.Needs.{needs}
 use Rattle.primitive.proofs.number.two_bytes.Statement.{statement}
 use Rattle.primitive.proofs.number.two_bytes.Tie as tie
@@ -10,48 +12,86 @@ use Rattle.primitive.proofs.number.two_bytes.Tie as tie
 enum-told : tie.Need-enum-told
 enum-told c = search needs
 
-shared-slice-read-two : tie.Need-shared-slice-read-two
-shared-slice-read-two c = search needs
+slice-aggregate-one-byte : tie.Need-slice-aggregate-one-byte
+slice-aggregate-one-byte c = sym (length-take-le 1 (now (c .before .before .before .before .args .p)) (search needs))
 
-shared-slice-read-two-2 : tie.Need-shared-slice-read-two-2
-shared-slice-read-two-2 c = search needs
+one-byte-requires : tie.Need-one-byte-requires
+one-byte-requires c κs = length-take-le 1 (now (c .before .before .before .before .args .p)) (search needs)
 
-two-requires : tie.Need-two-requires
-two-requires c κs = search needs
+sub-one-byte : tie.Need-sub-one-byte
+sub-one-byte c = search needs
+
+part-one-byte-start : tie.Need-part-one-byte-start
+part-one-byte-start c = search needs
+
+part-one-byte-end : tie.Need-part-one-byte-end
+part-one-byte-end c = search needs
+
+one-byte-requires-2 : tie.Need-one-byte-requires-2
+one-byte-requires-2 c κs = search needs
+
+joined-requires : tie.Need-joined-requires
+joined-requires c κs =
+    let start = c .before .before .before .before .before .before .before in
+    let b = halves-below Little (now (start .args .p)) 1 _ (start .pre) refl (λ j. c .before .before .before .before .before .before .shared-slice-known .given j .fits) _ _ (c .before .before .one-byte .ensures Little) (c .one-byte2 .ensures Little) in
+    (b .0, b .1, omega arith)
 
 enum-told-2 : tie.Need-enum-told-2
 enum-told-2 c = search needs
 
-shared-slice-read-two-3 : tie.Need-shared-slice-read-two-3
-shared-slice-read-two-3 c = search needs
+sub-one-byte-2 : tie.Need-sub-one-byte-2
+sub-one-byte-2 c = search needs
 
-shared-slice-read-two-4 : tie.Need-shared-slice-read-two-4
-shared-slice-read-two-4 c = search needs
+part-one-byte-start-2 : tie.Need-part-one-byte-start-2
+part-one-byte-start-2 c = search needs
 
-two-requires-2 : tie.Need-two-requires-2
-two-requires-2 c κs = search needs
+part-one-byte-end-2 : tie.Need-part-one-byte-end-2
+part-one-byte-end-2 c = search needs
+
+one-byte-requires-3 : tie.Need-one-byte-requires-3
+one-byte-requires-3 c κs = search needs
+
+slice-aggregate-one-byte-2 : tie.Need-slice-aggregate-one-byte-2
+slice-aggregate-one-byte-2 c = sym (length-take-le 1 (now (c .before .before .before .before .before .before .args .p)) (search needs))
+
+one-byte-requires-4 : tie.Need-one-byte-requires-4
+one-byte-requires-4 c κs = length-take-le 1 (now (c .before .before .before .before .before .before .args .p)) (search needs)
+
+joined-requires-2 : tie.Need-joined-requires-2
+joined-requires-2 c κs =
+    let start = c .before .before .before .before .before .before .before in
+    let b = halves-below Big (now (start .args .p)) 1 _ (start .pre) refl (λ j. c .before .before .before .before .before .before .shared-slice-known .given j .fits) _ _ (c .one-byte4 .ensures Big) (c .before .before .one-byte3 .ensures Big) in
+    (b .1, b .0, omega arith)
 
 returns : tie.Need-returns
 returns c =
-    let a = c .before .before .before .before .before .before .args in
-    rw (c .before .before .before .enum-told .given .1) (c .two .ensures .0 ∙ spelled-by Little (now (a .p)) 2 (c .before .before .before .before .before .before .pre))
+    let start = c .before .before .before .before .before .before .before .before in
+    rw (c .before .before .before .before .before .enum-told .given .1) (c .joined .ensures ∙ halves-read Little (now (start .args .p)) 1 _ (start .pre) refl _ _ (c .before .before .before .one-byte .ensures Little) (c .before .one-byte2 .ensures Little))
 
 returns-2 : tie.Need-returns-2
 returns-2 c =
-    let a = c .before .before .before .before .before .before .args in
-    rw (c .before .before .before .enum-told2 .given .1) (c .two2 .ensures .0 ∙ spelled-by Big (now (a .p)) 2 (c .before .before .before .before .before .before .pre))
+    let start = c .before .before .before .before .before .before .before .before in
+    rw (c .before .before .before .before .before .enum-told2 .given .1) (c .joined2 .ensures ∙ halves-read Big (now (start .args .p)) 1 _ (start .pre) refl _ _ (c .before .one-byte4 .ensures Big) (c .before .before .before .one-byte3 .ensures Big))
 
 pub two-bytes-spec : {M : Type 1} → statement M
 two-bytes-spec =
     tie.close
     (tie.spec
     enum-told
-    shared-slice-read-two
-    shared-slice-read-two-2
-    two-requires
+    slice-aggregate-one-byte
+    one-byte-requires
+    sub-one-byte
+    part-one-byte-start
+    part-one-byte-end
+    one-byte-requires-2
+    joined-requires
     enum-told-2
-    shared-slice-read-two-3
-    shared-slice-read-two-4
-    two-requires-2
+    sub-one-byte-2
+    part-one-byte-start-2
+    part-one-byte-end-2
+    one-byte-requires-3
+    slice-aggregate-one-byte-2
+    one-byte-requires-4
+    joined-requires-2
     returns
     returns-2)

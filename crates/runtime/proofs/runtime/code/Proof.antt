@@ -2,6 +2,8 @@
 use mathlib.Core.Path.{sym, _∙_, ap}
 use Rattle.primitive.proofs.Tests.{held, failed}
 use Rattle.runtime.specs.Addresses.{hasCode, codeAs}
+use Rattle.blend.specs.Blocks.{kindOf}
+use Rattle.blend.proofs.Lossless.{wholeKind}
 use borrow.Author.Needs.{needs}
 use Rattle.runtime.proofs.runtime.code.Statement.{statement}
 use Rattle.runtime.proofs.runtime.code.Tie as tie
@@ -26,11 +28,11 @@ cast-t15 c = search needs
 
 returns : tie.Need-returns
 unfolding codeAs
-returns c = sym (held _ _ (sym (c .before .has-code .ensures ∙ ap hasCode (c .before .before .of-code .ensures)) ∙ c .if1 .taken))
+returns c = sym (held _ _ (sym (c .before .has-code .ensures ∙ ap hasCode (wholeKind (c .before .before .of-code .result) (kindOf (c .before .before .before .args .number)) (c .before .before .of-code .ensures))) ∙ c .if1 .taken))
 
 returns-2 : tie.Need-returns-2
 unfolding codeAs
-returns-2 c = sym (failed _ _ (sym (c .before .has-code .ensures ∙ ap hasCode (c .before .before .of-code .ensures)) ∙ c .if1 .left))
+returns-2 c = sym (failed _ _ (sym (c .before .has-code .ensures ∙ ap hasCode (wholeKind (c .before .before .of-code .result) (kindOf (c .before .before .before .args .number)) (c .before .before .of-code .ensures))) ∙ c .if1 .left))
 
 pub code-spec : {M : Type 1} → statement M
 code-spec =

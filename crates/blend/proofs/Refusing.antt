@@ -1,0 +1,192 @@
+-- Why a file is not read is a cut, a wrong mark, or a refusal whose number is not 0: so a number 0 can tell that it was read.
+use Prim.Native.Nat.{ℕ, zero, suc, _+_}
+use mathlib.Core.Bool.{Bool, true, false}
+use mathlib.Core.List.{List, [], _∷_, _++_}
+use mathlib.Core.Path.{_≡_, refl, sym, _∙_, ap}
+use native.Mathlib.Omega.{arith}
+use lib.Dec.{eqb}
+use lib.ListN.{length}
+use Rattle.primitive.specs.declared.Fault.{Fault}
+use Rattle.primitive.specs.declared.Fault.the-variants.{Cut, Mark, Refusal}
+use Rattle.primitive.specs.declared.Endianness.{Endianness}
+use Rattle.primitive.specs.declared.Endianness.the-variants.{Little, Big}
+use Rattle.primitive.specs.declared.PointerSize.{PointerSize}
+use Rattle.primitive.specs.declared.PointerSize.the-variants.{Bits32, Bits64}
+use Rattle.primitive.specs.Ascii.{ascii}
+use Rattle.primitive.specs.Number.{spelled}
+use Rattle.primitive.specs.Reader.{Reader, Outcome, run, then, stands}
+use Rattle.primitive.specs.Reader.Reader.{done, refuse, bytes, skip}
+use Rattle.primitive.specs.Reader.Outcome.{read, fault}
+use Rattle.primitive.proofs.Refusing.{Gives, given, gives-then, gives-tag}
+use Rattle.dna.specs.declared.dna.DnaCounts.{DnaCounts}
+use Rattle.dna.specs.Catalogue.{Dna, catalogue}
+use Rattle.dna.proofs.Refusing.{catalogue-gives}
+use Rattle.blend.specs.declared.FileFormat.the-variants.{Legacy, New}
+use Rattle.blend.specs.declared.Header.{Header}
+use Rattle.blend.specs.declared.BlockHeader.{BlockHeader}
+use Rattle.blend.specs.declared.Kind.{Kind}
+use Rattle.blend.specs.declared.Row.{Row}
+use Rattle.blend.specs.declared.blend.Last.{Last}
+use Rattle.blend.specs.declared.blend.Boundary.{Boundary}
+use Rattle.blend.specs.Blocks.{Field, Item, layout, tested, fields, blockHeader, kindOf, taken, block, rowed, rowAt, payloadOf, within, catalogued, isDna, finished, onRow, boundaryOf}
+use Rattle.blend.specs.Blocks.Field.{size, address, index, count}
+use Rattle.blend.specs.Chain.{ended, link, chain, chainFrom, onHeader, fileBy, File}
+use Rattle.blend.specs.Header.{HeaderBytes, pointerMark, orderMark, legacy, new, headerBytes, valued}
+
+abbrev pub Counts : ℕ → Type 0
+Counts n = n ≡ 0 → ⊥
+
+-- the header's tree, and a block's
+pointer-gives : {B : Type 0} (k : PointerSize → Reader B) → ((p : PointerSize) → Gives Counts (k p)) → Gives Counts (pointerMark k)
+pointer-gives k g = (g Bits32, gives-tag Counts (ascii "-") (k Bits64) (g Bits64))
+
+order-gives : {B : Type 0} (k : Endianness → Reader B) → ((e : Endianness) → Gives Counts (k e)) → Gives Counts (orderMark k)
+order-gives k g = (g Little, gives-tag Counts (ascii "V") (k Big) (g Big))
+
+legacy-gives : (p : PointerSize) → Gives Counts (legacy p)
+unfolding legacy
+legacy-gives p = order-gives (λ e. bytes 3 (λ v. done (record { format = Legacy; pointer = p; order = e; unchecked = []; version = v }))) (λ e v. tt)
+
+new-gives : Gives Counts new
+unfolding new
+new-gives =
+    let last : List ℕ → PointerSize → List ℕ → Endianness → Reader HeaderBytes = λ a p b e. bytes 4 (λ v. done (record { format = New; pointer = p; order = e; unchecked = a ++ b; version = v })) in
+    λ a. pointer-gives (λ p. bytes 2 (λ b. orderMark (last a p b))) (λ p b. order-gives (last a p b) (λ e v. tt))
+
+header-gives : Gives Counts headerBytes
+unfolding headerBytes
+header-gives = ((legacy-gives Bits32, (legacy-gives Bits64, new-gives)), λ e. omega arith)
+
+tested-gives : {A : Type 0} (f : Field) (n : ℕ) (r : Reader A) → Gives Counts r → Gives Counts (tested f n r)
+tested-gives size n r w = w
+tested-gives index n r w = w
+tested-gives count n r w = w
+tested-gives {A} address n r w = go (eqb n 0)
+  where
+    go : (c : Bool) → Gives Counts {A = A} (elim c as (λ (d : Bool). Reader A) [ true ↦ refuse 3 | false ↦ r ])
+    go true = λ e. omega arith
+    go false = w
+
+fields-give : (is : List Item) (b : BlockHeader) → Gives Counts (fields is b)
+unfolding fields
+fields-give [] b = tt
+fields-give (i ∷ is) b = λ bs. tested-gives (i .field) (spelled (i .order) bs) _ (fields-give is _)
+
+taken-gives : (k : Kind) (n : ℕ) → Gives Counts (taken k n)
+taken-gives Kind.Rend n = tt
+taken-gives Kind.Test n = tt
+taken-gives Kind.Global n = tt
+taken-gives Kind.Subsidiary n = tt
+taken-gives Kind.Dna n = tt
+taken-gives Kind.Unknown n = λ e. omega arith
+taken-gives Kind.Principal n = go (eqb n 1)
+  where
+    go : (c : Bool) → Gives Counts {A = Unit {0}} (elim c as (λ (d : Bool). Reader (Unit {0})) [ true ↦ done tt | false ↦ refuse 4 ])
+    go true = tt
+    go false = λ e. omega arith
+
+block-gives : (h : Header) → Gives Counts (block h)
+unfolding block blockHeader
+block-gives h =
+    gives-then Counts (blockHeader h) (λ b. skip (b .size) (then (taken (kindOf (b .code)) (b .count)) (λ u. done b))) (λ bs. fields-give (layout h) _)
+    (λ b. gives-then Counts (taken (kindOf (b .code)) (b .count)) (λ u. done b) (taken-gives (kindOf (b .code)) (b .count)) (λ u. tt))
+
+-- what stops at a boundary, a chain and a file
+abbrev pub Told : Fault → Type 0
+Told x = x ≡ Refusal 0 → ⊥
+
+told : {A : Type 0} (o : Outcome A) → ((n : ℕ) → o ≡ fault (Refusal n) → Counts n) → (x : Fault) → o ≡ fault x → Told x
+told o f x e z = f 0 (e ∙ ap fault z) refl
+
+module _ (h : Header) (s : List ℕ) where
+  row-told : (at : ℕ) (x : Fault) → rowAt h s at ≡ fault x → Told x
+  unfolding rowAt
+  row-told at x e = go (run (block h) s at) refl e
+    where
+      go : (o : Outcome BlockHeader) → run (block h) s at ≡ o → rowed h at o ≡ fault x → Told x
+      go (read b next) t g =
+          let z : _≡_ {A = ℕ} 0 1 = cc in
+          absurd (omega arith)
+      go (fault y) t g =
+          let k : y ≡ x = cc in
+          told (run (block h) s at) (given Counts (block h) (block-gives h) s at) x (t ∙ ap fault k)
+
+  finished-told : (r : Row) (next : ℕ) (x : Fault) → finished h s r next ≡ Boundary.Stopped x → Told x
+  unfolding finished
+  finished-told r next x e = go (isDna (kindOf (r .code))) e
+    where
+      by : (o : Outcome Dna) → run (catalogue (h .endianness)) (payloadOf s r) 0 ≡ o → catalogued r next o ≡ Boundary.Stopped x → Told x
+      by (read d end) t g z =
+          let o : _≡_ {A = ℕ} 0 1 = cc in
+          omega arith
+      by (fault (Cut at)) t g z =
+          let k : Cut (r .payload + at) ≡ Refusal 0 = cc in
+          let o : _≡_ {A = ℕ} 0 1 = cc in
+          omega arith
+      by (fault (Mark at)) t g z =
+          let k : Mark (r .payload + at) ≡ Refusal 0 = cc in
+          let o : _≡_ {A = ℕ} 0 1 = cc in
+          omega arith
+      by (fault (Refusal n)) t g z = given (λ m. ⊥) (catalogue (h .endianness)) (catalogue-gives (λ m. ⊥) (h .endianness)) (payloadOf s r) 0 n t
+
+      go : (c : Bool) → (elim c as (λ (d : Bool). Boundary) [ true ↦ catalogued r next (run (catalogue (h .endianness)) (payloadOf s r) 0) | false ↦ Boundary.Block r Last.Other next ]) ≡ Boundary.Stopped x → Told x
+      go true g = by (run (catalogue (h .endianness)) (payloadOf s r) 0) refl g
+      go false g =
+          let z : _≡_ {A = ℕ} 0 1 = cc in
+          absurd (omega arith)
+
+  boundary-told : (at : ℕ) (x : Fault) → boundaryOf h s at ≡ Boundary.Stopped x → Told x
+  unfolding boundaryOf
+  boundary-told at x e = go (stands s at (ascii "ENDB")) e
+    where
+      by : (o : Outcome Row) → rowAt h s at ≡ o → onRow h s o ≡ Boundary.Stopped x → Told x
+      by (read r next) t g = finished-told r next x g
+      by (fault y) t g =
+          let k : y ≡ x = cc in
+          row-told at x (t ∙ ap fault k)
+
+      go : (c : Bool) → (elim c as (λ (d : Bool). Boundary) [ true ↦ Boundary.EndMark | false ↦ onRow h s (rowAt h s at) ]) ≡ Boundary.Stopped x → Told x
+      go true g =
+          let z : _≡_ {A = ℕ} 0 1 = cc in
+          absurd (omega arith)
+      go false g = by (rowAt h s at) refl g
+
+  ended-told : (l : Last) (next : ℕ) (x : Fault) → ended l next ≡ fault x → Told x
+  ended-told Last.Other next x e z =
+      let k : Refusal 6 ≡ Refusal 0 = cc in
+      let n : _≡_ {A = ℕ} 6 0 = cc in
+      omega arith
+  ended-told (Last.Dna n) next x e z =
+      let o : _≡_ {A = ℕ} 0 1 = cc in
+      omega arith
+
+  chain-told : (k at : ℕ) (l : Last) (x : Fault) → chain k h s at l .last ≡ fault x → Told x
+  unfolding chain
+  chain-told zero at l x e = λ z.
+      let k : Cut at ≡ Refusal 0 = cc in
+      let n : _≡_ {A = ℕ} 0 1 = cc in
+      omega arith
+  chain-told (suc k) at l x e = go (boundaryOf h s at) refl (λ next m. chain-told k next m x) e
+    where
+      go : (b : Boundary) → boundaryOf h s at ≡ b → ((next : ℕ) (m : Last) → chain k h s next m .last ≡ fault x → Told x) → link b l at (chain k h s) .last ≡ fault x → Told x
+      go Boundary.EndMark t f g = ended-told l (at + 4) x g
+      go (Boundary.Block r m next) t f g = f next m g
+      go (Boundary.Stopped y) t f g =
+          let q : y ≡ x = cc in
+          boundary-told at x (t ∙ ap Boundary.Stopped q)
+
+-- of the header, and of the chain after it
+pub header-told : (s : List ℕ) (x : Fault) → fileBy headerBytes s ≡ fault x → Told x
+header-told s x e = go (run headerBytes s 0) refl e
+  where
+    go : (o : Outcome HeaderBytes) → run headerBytes s 0 ≡ o → onHeader s (valued o) ≡ fault x → Told x
+    go (read b next) t g =
+        let z : _≡_ {A = ℕ} 0 1 = cc in
+        absurd (omega arith)
+    go (fault y) t g =
+        let k : y ≡ x = cc in
+        told (run headerBytes s 0) (given Counts headerBytes header-gives s 0) x (t ∙ ap fault k)
+
+pub file-told : (h : Header) (s : List ℕ) (at : ℕ) (x : Fault) → chainFrom h s at .last ≡ fault x → Told x
+unfolding chainFrom
+file-told h s at x e = chain-told h s (suc (length s)) at Last.Other x e

@@ -1,0 +1,136 @@
+-- The demands of the exported reading: its numbers are those of an answer of `blend`, and the number 0 for the refusal tells that the file was read.
+use Prim.Native.Nat.{ℕ, _/_}
+use mathlib.Core.Bool.{Bool, true, false}
+use mathlib.Core.List.{List, []}
+use mathlib.Core.Path.{_≡_, refl, sym, _∙_, ap, subst}
+use native.Mathlib.Omega.{arith}
+use lib.Dec.{ltb}
+use lib.ListN.{length}
+use Rattle.primitive.specs.declared.Endianness.{Endianness}
+use Rattle.primitive.specs.declared.Endianness.the-variants.{Little, Big}
+use Rattle.primitive.specs.declared.Fault.{Fault}
+use Rattle.primitive.specs.declared.Fault.the-variants.{Cut, Mark, Refusal}
+use Rattle.primitive.specs.Paper.{Paper}
+use Rattle.primitive.specs.Paper.Paper.{accepts, refuses}
+use Rattle.primitive.specs.Reader.{Outcome}
+use Rattle.primitive.specs.Reader.Outcome.{read, fault}
+use Rattle.primitive.specs.Refusals.{blockTableTooShort, paperFault}
+use Rattle.primitive.proofs.Refusing.{numberOf, fault-told}
+use Rattle.primitive.proofs.Tests.{held, failed}
+use Rattle.dna.specs.declared.dna.DnaCounts.{DnaCounts}
+use Rattle.blend.specs.declared.Header.{Header}
+use Rattle.blend.specs.declared.blend.RawBlend.{RawBlend}
+use Rattle.blend.specs.declared.blend.BlendAnswer.{BlendAnswer}
+use Rattle.blend.specs.Calls.{Answers}
+use Rattle.blend.specs.Chain.{Chain, File, fileBy, perRow, answerFor, readAs, paperBlend}
+use Rattle.blend.specs.Header.{headerBytes, order}
+use Rattle.blend.proofs.Refusing.{header-told, file-told}
+use Rattle.exports.specs.declared.BlendRead.{BlendRead}
+use Rattle.exports.specs.Calls.{«blend_read»}
+use Rattle.exports.specs.Exports.{orderOf, readOut}
+use Rattle.demands.specs.Answers.{rowsIn}
+use Rattle.demands.specs.Cover.{Covered, EveryBlockExported}
+use Rattle.demands.specs.Unaltered.{Alike, Stays, NoOtherObjectExported}
+use Rattle.demands.proofs.Cover.{every-block}
+use Rattle.demands.proofs.Files.{filed}
+use Rattle.demands.proofs.Unaltered.{no-other-object}
+
+-- whatever the rules answer, some answer of `blend` is told so
+pub answered : (o : Outcome File) (room : ℕ) → (c : BlendAnswer) × (paperBlend c ≡ readAs o room)
+unfolding readAs
+answered (fault x) room = (BlendAnswer.Refused (numberOf x), sym (fault-told x))
+answered (read f at) room = last (f .chain .last)
+  where
+    rows : ℕ
+    rows = length (f .chain .rows)
+
+    last : (l : Outcome DnaCounts) → (c : BlendAnswer) × (paperBlend c ≡ answerFor (f .header) rows room l)
+    last (fault x) = (BlendAnswer.Refused (numberOf x), sym (fault-told x))
+    last (read n end) = fits (ltb room rows) refl
+      where
+        fits : (b : Bool) → ltb room rows ≡ b → (c : BlendAnswer) × (paperBlend c ≡ answerFor (f .header) rows room (read n end))
+        fits true e = (BlendAnswer.TableTooShort rows, sym (held _ _ e))
+        fits false e = (BlendAnswer.Is (record { header = f .header; rows = rows; end = end; dna = n }), sym (failed _ _ e))
+
+-- no refusal of a file has the number 0
+no-zero : (x : Fault) → (x ≡ Refusal 0 → ⊥) → refuses 0 [] ≡ paperFault x → ⊥
+no-zero (Cut at) f e =
+    let z : _≡_ {A = ℕ} 0 2 = cc in
+    omega arith
+no-zero (Mark at) f e =
+    let z : _≡_ {A = ℕ} 0 2 = cc in
+    omega arith
+no-zero (Refusal n) f e =
+    let z : n ≡ 0 = cc in
+    f (ap Refusal z)
+
+numbered : (s : List ℕ) (room : ℕ) → refuses 0 [] ≡ readAs (fileBy headerBytes s) room → ⊥
+unfolding readAs
+numbered s room e = go (fileBy headerBytes s) refl e
+  where
+    last : (f : File) (at : ℕ) → fileBy headerBytes s ≡ read f at → (l : Outcome DnaCounts) → f .chain .last ≡ l → refuses 0 [] ≡ answerFor (f .header) (length (f .chain .rows)) room l → ⊥
+    last f at t (fault x) u g = no-zero x (file-told (f .header) s at x (sym (ap (λ (c : Chain). c .last) (filed headerBytes s f at t .chained)) ∙ u)) g
+    last f at t (read n end) u g = fits (ltb room (length (f .chain .rows))) refl
+      where
+        fits : (b : Bool) → ltb room (length (f .chain .rows)) ≡ b → ⊥
+        fits true k =
+            let q : refuses 0 [] ≡ blockTableTooShort (length (f .chain .rows)) = g ∙ held _ _ k in
+            let z : _≡_ {A = ℕ} 0 7 = cc in
+            omega arith
+        fits false k =
+            let q : refuses 0 [] ≡ paperBlend (BlendAnswer.Is (record { header = f .header; rows = length (f .chain .rows); end = end; dna = n })) = g ∙ failed _ _ k in
+            let z : _≡_ {A = ℕ} 0 1 = cc in
+            omega arith
+
+    go : (o : Outcome File) → fileBy headerBytes s ≡ o → refuses 0 [] ≡ readAs o room → ⊥
+    go (fault x) t g = no-zero x (header-told s x t) g
+    go (read f at) t g = last f at t (f .chain .last) refl g
+
+-- the answer of `blend` that an exported reading without a refusal tells
+pub record Read (s t t′ : List ℕ) (r : BlendRead) : Type 0 where
+  pub answer : RawBlend
+  pub answers : Answers (fileBy headerBytes) s t (BlendAnswer.Is answer) t′
+  pub told : r ≡ readOut (paperBlend (BlendAnswer.Is answer))
+
+pub read-by : (s t t′ : List ℕ) (r : BlendRead) → «blend_read» s t r t′ → r .refusal ≡ 0 → Read s t t′ r
+read-by s t t′ r w e = go (answered (fileBy headerBytes s) (length t / perRow) .0) (answered (fileBy headerBytes s) (length t / perRow) .1)
+  where
+    go : (c : BlendAnswer) → paperBlend c ≡ readAs (fileBy headerBytes s) (length t / perRow) → Read s t t′ r
+    go (BlendAnswer.Is b) k = record { answer = b; answers = (k, w .1); told = w .0 ∙ ap readOut (sym k) }
+    go (BlendAnswer.Refused n) k =
+        let z : n ≡ 0 = ap (λ (p : Paper). readOut p .refusal) k ∙ ap (λ (q : BlendRead). q .refusal) (sym (w .0)) ∙ e in
+        absurd (numbered s (length t / perRow) (ap (λ (m : ℕ). refuses m []) (sym z) ∙ k))
+    go (BlendAnswer.TableTooShort n) k =
+        let z : _≡_ {A = ℕ} 7 0 = ap (λ (p : Paper). readOut p .refusal) k ∙ ap (λ (q : BlendRead). q .refusal) (sym (w .0)) ∙ e in
+        absurd (omega arith)
+
+pub every-block-exported : EveryBlockExported
+every-block-exported s t t′ r w e =
+    let k = read-by s t t′ r w e in
+    let b = k .answer in (
+      b .header,
+      (
+        ap (λ (x : BlendRead). x .edition) (k .told),
+        ap (λ (x : BlendRead). x .«pointer_bytes») (k .told),
+        ap (λ (x : BlendRead). x .order) (k .told),
+        ap (λ (x : BlendRead). x .major) (k .told),
+        ap (λ (x : BlendRead). x .minor) (k .told),
+      ),
+      subst (λ (x : BlendRead). Covered headerBytes s (b .header) (rowsIn t′ (x .rows)) (x .end)) (sym (k .told)) (every-block s t t′ (BlendAnswer.Is b) (k .answers)),
+    )
+
+order-back : (e : Endianness) → orderOf (order e) ≡ e
+order-back Little = refl
+order-back Big = refl
+
+pub no-other-object-exported : NoOtherObjectExported
+no-other-object-exported s t t′ r w e z u u′ q x long alike =
+    let k = read-by s t t′ r w e in
+    let b = k .answer in
+    let c = answered (fileBy headerBytes z) (length u / perRow) in
+    let like = subst (λ (y : BlendRead). Alike (rowsIn t′ (y .rows)) (y .end) s z) (k .told) alike in
+    let d = no-other-object s t t′ (BlendAnswer.Is b) (k .answers) z u u′ (c .0) (c .1, x .1) long like in
+    let f = subst (λ (i : Endianness). Stays s t t′ (b .rows) i z u u′) (sym (order-back (b .header .endianness))) (d .1) in (
+      x .0 ∙ ap readOut (sym (c .1)) ∙ ap (λ (y : BlendAnswer). readOut (paperBlend y)) (d .0) ∙ sym (k .told),
+      subst (λ (y : BlendRead). Stays s t t′ (y .rows) (orderOf (y .order)) z u u′) (sym (k .told)) f,
+    )

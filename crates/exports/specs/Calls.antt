@@ -1,0 +1,55 @@
+-- What each function for other languages promises, by its name (crates/primitive/specs/Calls.antt says how to read it). A table that is lent to write in stands for what
+-- it held, and primed for what it holds afterwards.
+use Prim.Native.Nat.{ℕ, _/_}
+use mathlib.Core.List.{List}
+use mathlib.Core.Path.{_≡_}
+use lib.ListN.{length}
+use Rattle.primitive.specs.Primitive.{valueOf, unsigned}
+use Rattle.primitive.specs.Reader.{run}
+use Rattle.dna.specs.Catalogue.{catalogue}
+use Rattle.field.specs.Declarators.{declared, parsedAs, filledBy, widthAs}
+use Rattle.blend.specs.Header.{headerBytes, valued, headerAs}
+use Rattle.blend.specs.Chain.{fileBy, perRow, readAs, tableAfter}
+use Rattle.runtime.specs.Views.{cell, viewAs}
+use Rattle.runtime.specs.Addresses.{lookupAs}
+use Rattle.exports.specs.declared.BlendHeader.{BlendHeader}
+use Rattle.exports.specs.declared.BlendRead.{BlendRead}
+use Rattle.exports.specs.declared.BlendCatalogue.{BlendCatalogue}
+use Rattle.exports.specs.declared.BlendField.{BlendField}
+use Rattle.exports.specs.declared.BlendView.{BlendView}
+use Rattle.exports.specs.declared.BlendPointer.{BlendPointer}
+use Rattle.exports.specs.declared.BlendValue.{BlendValue}
+use Rattle.exports.specs.Exports.{orderOf, headerOut, readOut, Catalogued, fieldOut, declaratorOf, sizeOf, viewOut, pointerOut, valueOut}
+
+abbrev pub «blend_header» : (file : List ℕ) → BlendHeader → Type 0
+«blend_header» file r = r ≡ headerOut (headerAs (valued (run headerBytes file 0)))
+
+abbrev pub «blend_read» : (file table : List ℕ) → BlendRead → List ℕ → Type 0
+«blend_read» file table r table′ = (r ≡ readOut (readAs (fileBy headerBytes file) (length table / perRow))) × (table′ ≡ tableAfter (fileBy headerBytes file) table)
+
+abbrev pub «blend_catalogue» : (payload : List ℕ) (order : ℕ) (names types structs fields : List ℕ) → BlendCatalogue → List ℕ → List ℕ → List ℕ → List ℕ → Type 0
+«blend_catalogue» payload order names types structs fields r names′ types′ structs′ fields′ = Catalogued (run (catalogue (orderOf order)) payload 0) r names types structs fields names′ types′ structs′ fields′
+
+abbrev pub «blend_field» : (name dimensions : List ℕ) → BlendField → List ℕ → Type 0
+«blend_field» name dimensions r dimensions′ = (r ≡ fieldOut (parsedAs (declared name) (length dimensions))) × (dimensions′ ≡ filledBy (declared name) dimensions)
+
+abbrev pub «blend_width» : (kind length size «pointer_bytes» : ℕ) → BlendValue → Type 0
+«blend_width» kind length size «pointer_bytes» r = r ≡ valueOut (widthAs (declaratorOf kind length) size (sizeOf «pointer_bytes»))
+
+abbrev pub «blend_view» : (file table : List ℕ) (row : ℕ) → BlendView → Type 0
+«blend_view» file table row r = r ≡ viewOut (viewAs file table row) (cell table row 5) (cell table row 6)
+
+abbrev pub «blend_lookup» : (table : List ℕ) (rows address : ℕ) → BlendPointer → Type 0
+«blend_lookup» table rows address r = r ≡ pointerOut (lookupAs table rows address)
+
+abbrev pub «blend_u8» : (slice : List ℕ) (order : ℕ) → BlendValue → Type 0
+«blend_u8» slice order r = r ≡ valueOut (valueOf 1 unsigned (orderOf order) slice)
+
+abbrev pub «blend_u16» : (slice : List ℕ) (order : ℕ) → BlendValue → Type 0
+«blend_u16» slice order r = r ≡ valueOut (valueOf 2 unsigned (orderOf order) slice)
+
+abbrev pub «blend_u32» : (slice : List ℕ) (order : ℕ) → BlendValue → Type 0
+«blend_u32» slice order r = r ≡ valueOut (valueOf 4 unsigned (orderOf order) slice)
+
+abbrev pub «blend_u64» : (slice : List ℕ) (order : ℕ) → BlendValue → Type 0
+«blend_u64» slice order r = r ≡ valueOut (valueOf 8 unsigned (orderOf order) slice)

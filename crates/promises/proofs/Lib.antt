@@ -1,0 +1,3 @@
+-- The proofs of the promises.
+pub mod Calls
+pub mod Promises

@@ -1,0 +1,216 @@
+-- Every public call of the libraries: by its name, with its signature, its routine and its contract, which is the one that src/ ensures
+-- (crates/NAME/specs/Calls.antt). tests/public-calls fails where a public function is none of these.
+use Prim.Native.Nat.{ℕ}
+use mathlib.Core.List.{List}
+use mathlib.Core.Path.{_≡_}
+use denote.Ref.{now}
+use Rattle.primitive.specs.Paper.{Paper}
+use Rattle.primitive.specs.Paper.Paper.{refuses}
+use Rattle.primitive.specs.Calls.{«PointerSize::bytes_num», «cursor::Width::bytes_num», «cursor::stands_at», «cursor::before», «cursor::Cursor::new», «cursor::Cursor::number», «cursor::Cursor::skip», «cursor::Cursor::bytes», «cursor::Cursor::part», «cursor::Cursor::mark», «cursor::Cursor::begins», «cursor::Cursor::string», «primitive::parse_u8», «primitive::parse_u16», «primitive::parse_u32», «primitive::parse_u64», «primitive::parse_char», «primitive::parse_i8», «primitive::parse_i16», «primitive::parse_i32», «primitive::parse_i64», «primitive::parse_f32», «primitive::parse_f64», «primitive::blender_name_char», «primitive::blender_name_i8», «primitive::blender_name_u8», «primitive::blender_name_u16», «primitive::blender_name_i16», «primitive::blender_name_i32», «primitive::blender_name_u32», «primitive::blender_name_f32», «primitive::blender_name_f64», «primitive::blender_name_u64», «primitive::blender_name_i64»}
+use Rattle.field.specs.Calls.{«field::fn_pointer», «field::scan_field», «field::parse_field», «field::width»}
+use Rattle.dna.specs.Calls.{«dna::dna_counts», «dna::dna»}
+use Rattle.blend.specs.Calls.{«FileFormat::header_len», «FileFormat::block_header_len», «Header::new», «BlockHeader::new», «Kind::of_code», «blend::pointer_size», «blend::endianness», «blend::version», «blend::header», «blend::refusal_of», «blend::block_header_code», «blend::blend», «walker::Place::start», «walker::Place::step»}
+use Rattle.runtime.specs.Calls.{«runtime::view», «runtime::view_part», «runtime::matches», «runtime::get_ptr», «runtime::code»}
+use Rattle.held.specs.Calls.{«step_at», «over», «next», «moved», «step_from», «row_is», «find_row», «find_in»}
+use Rattle.exports.specs.Calls.{«blend_header», «blend_read», «blend_catalogue», «blend_field», «blend_width», «blend_view», «blend_lookup», «blend_u8», «blend_u16», «blend_u32», «blend_u64»}
+use Rattle.demands.specs.Calls.{«read», «read_two»}
+use Rattle.field.specs.Declarators.{paperField}
+use Rattle.dna.specs.Catalogue.{paperTables}
+use Rattle.blend.specs.Chain.{paperBlend}
+use Rattle.primitive.proofs as primitive
+use Rattle.field.proofs as field
+use Rattle.dna.proofs as dna
+use Rattle.blend.proofs as blend
+use Rattle.runtime.proofs as runtime
+use Rattle.held.proofs as held
+use Rattle.exports.proofs as exports
+use Rattle.demands.proofs as demands
+use Rattle.promises.specs.Keeps.{Public}
+use Rattle.promises.specs.Keeps.Public.{call, shows, lends}
+
+pub data PublicCall : Type 0 where
+  «primitive::PointerSize::bytes_num» : PublicCall
+  «primitive::cursor::Width::bytes_num» : PublicCall
+  «primitive::cursor::stands_at» : PublicCall
+  «primitive::cursor::before» : PublicCall
+  «primitive::cursor::Cursor::new» : PublicCall
+  «primitive::cursor::Cursor::number» : PublicCall
+  «primitive::cursor::Cursor::skip» : PublicCall
+  «primitive::cursor::Cursor::bytes» : PublicCall
+  «primitive::cursor::Cursor::part» : PublicCall
+  «primitive::cursor::Cursor::mark» : PublicCall
+  «primitive::cursor::Cursor::begins» : PublicCall
+  «primitive::cursor::Cursor::string» : PublicCall
+  «primitive::primitive::parse_u8» : PublicCall
+  «primitive::primitive::parse_u16» : PublicCall
+  «primitive::primitive::parse_u32» : PublicCall
+  «primitive::primitive::parse_u64» : PublicCall
+  «primitive::primitive::parse_char» : PublicCall
+  «primitive::primitive::parse_i8» : PublicCall
+  «primitive::primitive::parse_i16» : PublicCall
+  «primitive::primitive::parse_i32» : PublicCall
+  «primitive::primitive::parse_i64» : PublicCall
+  «primitive::primitive::parse_f32» : PublicCall
+  «primitive::primitive::parse_f64» : PublicCall
+  «primitive::primitive::blender_name_char» : PublicCall
+  «primitive::primitive::blender_name_i8» : PublicCall
+  «primitive::primitive::blender_name_u8» : PublicCall
+  «primitive::primitive::blender_name_u16» : PublicCall
+  «primitive::primitive::blender_name_i16» : PublicCall
+  «primitive::primitive::blender_name_i32» : PublicCall
+  «primitive::primitive::blender_name_u32» : PublicCall
+  «primitive::primitive::blender_name_f32» : PublicCall
+  «primitive::primitive::blender_name_f64» : PublicCall
+  «primitive::primitive::blender_name_u64» : PublicCall
+  «primitive::primitive::blender_name_i64» : PublicCall
+  «field::field::fn_pointer» : PublicCall
+  «field::field::scan_field» : PublicCall
+  «field::field::parse_field» : PublicCall
+  «field::field::width» : PublicCall
+  «dna::dna::dna_counts» : PublicCall
+  «dna::dna::dna» : PublicCall
+  «blend::FileFormat::header_len» : PublicCall
+  «blend::FileFormat::block_header_len» : PublicCall
+  «blend::Header::new» : PublicCall
+  «blend::BlockHeader::new» : PublicCall
+  «blend::Kind::of_code» : PublicCall
+  «blend::blend::pointer_size» : PublicCall
+  «blend::blend::endianness» : PublicCall
+  «blend::blend::version» : PublicCall
+  «blend::blend::header» : PublicCall
+  «blend::blend::refusal_of» : PublicCall
+  «blend::blend::block_header_code» : PublicCall
+  «blend::blend::blend» : PublicCall
+  «blend::walker::Place::start» : PublicCall
+  «blend::walker::Place::step» : PublicCall
+  «runtime::runtime::view» : PublicCall
+  «runtime::runtime::view_part» : PublicCall
+  «runtime::runtime::matches» : PublicCall
+  «runtime::runtime::get_ptr» : PublicCall
+  «runtime::runtime::code» : PublicCall
+  «held::step_at» : PublicCall
+  «held::over» : PublicCall
+  «held::next» : PublicCall
+  «held::moved» : PublicCall
+  «held::step_from» : PublicCall
+  «held::row_is» : PublicCall
+  «held::find_row» : PublicCall
+  «held::find_in» : PublicCall
+  «exports::blend_header» : PublicCall
+  «exports::blend_read» : PublicCall
+  «exports::blend_catalogue» : PublicCall
+  «exports::blend_field» : PublicCall
+  «exports::blend_width» : PublicCall
+  «exports::blend_view» : PublicCall
+  «exports::blend_lookup» : PublicCall
+  «exports::blend_u8» : PublicCall
+  «exports::blend_u16» : PublicCall
+  «exports::blend_u32» : PublicCall
+  «exports::blend_u64» : PublicCall
+  «demands::read» : PublicCall
+  «demands::read_two» : PublicCall
+
+-- an answer that is told as a refusal, with its number and what it carries; and the same of a struct's number
+abbrev pub Refused : Paper → Type 0
+Refused p = (number : ℕ) × (carries : List ℕ) × (p ≡ refuses number carries)
+
+abbrev pub Nonzero : ℕ → Type 0
+Nonzero n = n ≡ 0 → ⊥
+
+abbrev pub publicCall : PublicCall → Public
+publicCall «primitive::PointerSize::bytes_num» = call primitive.PointerSize.bytes_num.ended primitive.PointerSize.bytes_num.Symbol.routine (λ κs (self, _) r e. «PointerSize::bytes_num» self r)
+publicCall «primitive::cursor::Width::bytes_num» = call primitive.cursor.Width.bytes_num.ended primitive.cursor.Width.bytes_num.Symbol.routine (λ κs (self, _) r e. «cursor::Width::bytes_num» self r)
+publicCall «primitive::cursor::stands_at» = call primitive.cursor.stands_at.ended primitive.cursor.stands_at.Symbol.routine (λ κs (s, (at, (m, _))) r e. «cursor::stands_at» (now s) at (now m) r)
+publicCall «primitive::cursor::before» = call primitive.cursor.before.ended primitive.cursor.before.Symbol.routine (λ κs (s, (c, _)) r e. «cursor::before» (now s) c r)
+publicCall «primitive::cursor::Cursor::new» = call primitive.cursor.Cursor.new.ended primitive.cursor.Cursor.new.Symbol.routine (λ κs (at, _) r e. «cursor::Cursor::new» at r)
+publicCall «primitive::cursor::Cursor::number» = call primitive.cursor.Cursor.number.ended primitive.cursor.Cursor.number.Symbol.routine (λ κs (self, (s, (width, (order, _)))) r e. «cursor::Cursor::number» self (now s) width order r)
+publicCall «primitive::cursor::Cursor::skip» = call primitive.cursor.Cursor.skip.ended primitive.cursor.Cursor.skip.Symbol.routine (λ κs (self, (s, (n, _))) r e. «cursor::Cursor::skip» self (now s) n r)
+publicCall «primitive::cursor::Cursor::bytes» = call primitive.cursor.Cursor.bytes.ended primitive.cursor.Cursor.bytes.Symbol.routine (λ κs (self, (s, (n, _))) r e. «cursor::Cursor::bytes» self (now s) n r)
+publicCall «primitive::cursor::Cursor::part» = shows primitive.cursor.Cursor.part.ended primitive.cursor.Cursor.part.Symbol.routine (λ κs r. now r) (λ κs (self, (s, (n, _))) r e. «cursor::Cursor::part» self (now s) n (now r))
+publicCall «primitive::cursor::Cursor::mark» = call primitive.cursor.Cursor.mark.ended primitive.cursor.Cursor.mark.Symbol.routine (λ κs (self, (s, (m, _))) r e. «cursor::Cursor::mark» self (now s) (now m) r)
+publicCall «primitive::cursor::Cursor::begins» = call primitive.cursor.Cursor.begins.ended primitive.cursor.Cursor.begins.Symbol.routine (λ κs (self, (s, (m, _))) r e. «cursor::Cursor::begins» self (now s) (now m) r)
+publicCall «primitive::cursor::Cursor::string» = call primitive.cursor.Cursor.string.ended primitive.cursor.Cursor.string.Symbol.routine (λ κs (self, (s, _)) r e. «cursor::Cursor::string» self (now s) r)
+publicCall «primitive::primitive::parse_u8» = call primitive.primitive.parse_u8.ended primitive.primitive.parse_u8.Symbol.routine (λ κs (slice, (endianness, _)) r e. «primitive::parse_u8» (now slice) endianness r)
+publicCall «primitive::primitive::parse_u16» = call primitive.primitive.parse_u16.ended primitive.primitive.parse_u16.Symbol.routine (λ κs (slice, (endianness, _)) r e. «primitive::parse_u16» (now slice) endianness r)
+publicCall «primitive::primitive::parse_u32» = call primitive.primitive.parse_u32.ended primitive.primitive.parse_u32.Symbol.routine (λ κs (slice, (endianness, _)) r e. «primitive::parse_u32» (now slice) endianness r)
+publicCall «primitive::primitive::parse_u64» = call primitive.primitive.parse_u64.ended primitive.primitive.parse_u64.Symbol.routine (λ κs (slice, (endianness, _)) r e. «primitive::parse_u64» (now slice) endianness r)
+publicCall «primitive::primitive::parse_char» = call primitive.primitive.parse_char.ended primitive.primitive.parse_char.Symbol.routine (λ κs (slice, (endianness, _)) r e. «primitive::parse_char» (now slice) endianness r)
+publicCall «primitive::primitive::parse_i8» = call primitive.primitive.parse_i8.ended primitive.primitive.parse_i8.Symbol.routine (λ κs (slice, (endianness, _)) r e. «primitive::parse_i8» (now slice) endianness r)
+publicCall «primitive::primitive::parse_i16» = call primitive.primitive.parse_i16.ended primitive.primitive.parse_i16.Symbol.routine (λ κs (slice, (endianness, _)) r e. «primitive::parse_i16» (now slice) endianness r)
+publicCall «primitive::primitive::parse_i32» = call primitive.primitive.parse_i32.ended primitive.primitive.parse_i32.Symbol.routine (λ κs (slice, (endianness, _)) r e. «primitive::parse_i32» (now slice) endianness r)
+publicCall «primitive::primitive::parse_i64» = call primitive.primitive.parse_i64.ended primitive.primitive.parse_i64.Symbol.routine (λ κs (slice, (endianness, _)) r e. «primitive::parse_i64» (now slice) endianness r)
+publicCall «primitive::primitive::parse_f32» = call primitive.primitive.parse_f32.ended primitive.primitive.parse_f32.Symbol.routine (λ κs (slice, (endianness, _)) r e. «primitive::parse_f32» (now slice) endianness r)
+publicCall «primitive::primitive::parse_f64» = call primitive.primitive.parse_f64.ended primitive.primitive.parse_f64.Symbol.routine (λ κs (slice, (endianness, _)) r e. «primitive::parse_f64» (now slice) endianness r)
+publicCall «primitive::primitive::blender_name_char» = call primitive.primitive.blender_name_char.ended primitive.primitive.blender_name_char.Symbol.routine (λ κs a r e. «primitive::blender_name_char» r)
+publicCall «primitive::primitive::blender_name_i8» = call primitive.primitive.blender_name_i8.ended primitive.primitive.blender_name_i8.Symbol.routine (λ κs a r e. «primitive::blender_name_i8» r)
+publicCall «primitive::primitive::blender_name_u8» = call primitive.primitive.blender_name_u8.ended primitive.primitive.blender_name_u8.Symbol.routine (λ κs a r e. «primitive::blender_name_u8» r)
+publicCall «primitive::primitive::blender_name_u16» = call primitive.primitive.blender_name_u16.ended primitive.primitive.blender_name_u16.Symbol.routine (λ κs a r e. «primitive::blender_name_u16» r)
+publicCall «primitive::primitive::blender_name_i16» = call primitive.primitive.blender_name_i16.ended primitive.primitive.blender_name_i16.Symbol.routine (λ κs a r e. «primitive::blender_name_i16» r)
+publicCall «primitive::primitive::blender_name_i32» = call primitive.primitive.blender_name_i32.ended primitive.primitive.blender_name_i32.Symbol.routine (λ κs a r e. «primitive::blender_name_i32» r)
+publicCall «primitive::primitive::blender_name_u32» = call primitive.primitive.blender_name_u32.ended primitive.primitive.blender_name_u32.Symbol.routine (λ κs a r e. «primitive::blender_name_u32» r)
+publicCall «primitive::primitive::blender_name_f32» = call primitive.primitive.blender_name_f32.ended primitive.primitive.blender_name_f32.Symbol.routine (λ κs a r e. «primitive::blender_name_f32» r)
+publicCall «primitive::primitive::blender_name_f64» = call primitive.primitive.blender_name_f64.ended primitive.primitive.blender_name_f64.Symbol.routine (λ κs a r e. «primitive::blender_name_f64» r)
+publicCall «primitive::primitive::blender_name_u64» = call primitive.primitive.blender_name_u64.ended primitive.primitive.blender_name_u64.Symbol.routine (λ κs a r e. «primitive::blender_name_u64» r)
+publicCall «primitive::primitive::blender_name_i64» = call primitive.primitive.blender_name_i64.ended primitive.primitive.blender_name_i64.Symbol.routine (λ κs a r e. «primitive::blender_name_i64» r)
+publicCall «field::field::fn_pointer» = call field.field.fn_pointer.ended field.field.fn_pointer.Symbol.routine (λ κs (name, _) r e. «field::fn_pointer» (now name) r)
+publicCall «field::field::scan_field» = call field.field.scan_field.ended field.field.scan_field.Symbol.routine (λ κs (name, _) r e. «field::scan_field» (now name) r)
+publicCall «field::field::parse_field» =
+    lends field.field.parse_field.ended field.field.parse_field.Symbol.routine (λ κs (name, (dimensions, _)) r (_, (dimensions′, _)). «field::parse_field» (now name) (now dimensions) r (now dimensions′))
+    (λ κs (_, (dimensions, _)) r (_, (dimensions′, _)). Refused (paperField r) → dimensions′ ≡ now dimensions)
+publicCall «field::field::width» = call field.field.width.ended field.field.width.Symbol.routine (λ κs (d, (size, («pointer_size», _))) r e. «field::width» d size «pointer_size» r)
+publicCall «dna::dna::dna_counts» = call dna.dna.dna_counts.ended dna.dna.dna_counts.Symbol.routine (λ κs (payload, (endianness, _)) r e. «dna::dna_counts» (now payload) endianness r)
+publicCall «dna::dna::dna» =
+    lends dna.dna.dna.ended dna.dna.dna.Symbol.routine (λ κs (payload, (endianness, (names, (types, (structs, (fields, _)))))) r (_, (_, (names′, (types′, (structs′, (fields′, _)))))). «dna::dna» (now payload) endianness (now names) (now types) (now structs) (now fields) r (now names′) (now types′) (now structs′) (now fields′))
+    (λ κs (_, (_, (names, (types, (structs, (fields, _)))))) r (_, (_, (names′, (types′, (structs′, (fields′, _)))))). Refused (paperTables r) → (names′ ≡ now names) × (types′ ≡ now types) × (structs′ ≡ now structs) × (fields′ ≡ now fields))
+publicCall «blend::FileFormat::header_len» = call blend.FileFormat.header_len.ended blend.FileFormat.header_len.Symbol.routine (λ κs (self, _) r e. «FileFormat::header_len» self r)
+publicCall «blend::FileFormat::block_header_len» = call blend.FileFormat.block_header_len.ended blend.FileFormat.block_header_len.Symbol.routine (λ κs (self, («pointer_size», _)) r e. «FileFormat::block_header_len» self «pointer_size» r)
+publicCall «blend::Header::new» = call blend.Header.new.ended blend.Header.new.Symbol.routine (λ κs («pointer_size», (endianness, (version, (format, _)))) r e. «Header::new» «pointer_size» endianness version format r)
+publicCall «blend::BlockHeader::new» = call blend.BlockHeader.new.ended blend.BlockHeader.new.Symbol.routine (λ κs (code, (size, (address, (index, (count, _))))) r e. «BlockHeader::new» code size address index count r)
+publicCall «blend::Kind::of_code» = call blend.Kind.of_code.ended blend.Kind.of_code.Symbol.routine (λ κs (code, _) r e. «Kind::of_code» code r)
+publicCall «blend::blend::pointer_size» = call blend.blend.pointer_size.ended blend.blend.pointer_size.Symbol.routine (λ κs (c, (s, _)) r e. «blend::pointer_size» c (now s) r)
+publicCall «blend::blend::endianness» = call blend.blend.endianness.ended blend.blend.endianness.Symbol.routine (λ κs (c, (s, _)) r e. «blend::endianness» c (now s) r)
+publicCall «blend::blend::version» = call blend.blend.version.ended blend.blend.version.Symbol.routine (λ κs (c, (s, _)) r e. «blend::version» c (now s) r)
+publicCall «blend::blend::header» = call blend.blend.header.ended blend.blend.header.Symbol.routine (λ κs (file, _) r e. «blend::header» (now file) r)
+publicCall «blend::blend::refusal_of» = call blend.blend.refusal_of.ended blend.blend.refusal_of.Symbol.routine (λ κs (answer, _) r e. «blend::refusal_of» answer r)
+publicCall «blend::blend::block_header_code» = call blend.blend.block_header_code.ended blend.blend.block_header_code.Symbol.routine (λ κs (c, (s, _)) r e. «blend::block_header_code» c (now s) r)
+publicCall «blend::blend::blend» =
+    lends blend.blend.blend.ended blend.blend.blend.Symbol.routine (λ κs (file, (table, _)) r (_, (table′, _)). «blend::blend» (now file) (now table) r (now table′))
+    (λ κs (_, (table, _)) r (_, (table′, _)). Refused (paperBlend r) → table′ ≡ now table)
+publicCall «blend::walker::Place::start» = call blend.walker.Place.start.ended blend.walker.Place.start.Symbol.routine (λ κs a r e. «walker::Place::start» r)
+publicCall «blend::walker::Place::step» = call blend.walker.Place.step.ended blend.walker.Place.step.Symbol.routine (λ κs (self, (file, _)) r e. «walker::Place::step» self (now file) r)
+publicCall «runtime::runtime::view» = call runtime.runtime.view.ended runtime.runtime.view.Symbol.routine (λ κs (file, (table, (row, _))) r e. «runtime::view» (now file) (now table) row r)
+publicCall «runtime::runtime::view_part» = shows runtime.runtime.view_part.ended runtime.runtime.view_part.Symbol.routine (λ κs r. now r) (λ κs (file, (table, (row, _))) r e. «runtime::view_part» (now file) (now table) row (now r))
+publicCall «runtime::runtime::matches» = call runtime.runtime.matches.ended runtime.runtime.matches.Symbol.routine (λ κs (wanted, (code, (address, _))) r e. «runtime::matches» wanted code address r)
+publicCall «runtime::runtime::get_ptr» = call runtime.runtime.get_ptr.ended runtime.runtime.get_ptr.Symbol.routine (λ κs (table, (rows, (address, _))) r e. «runtime::get_ptr» (now table) rows address r)
+publicCall «runtime::runtime::code» = call runtime.runtime.code.ended runtime.runtime.code.Symbol.routine (λ κs (number, _) r e. «runtime::code» number r)
+publicCall «held::step_at» = call held.step_at.ended held.step_at.Symbol.routine (λ κs (file, (place, _)) r e. «step_at» (now file) place r)
+publicCall «held::over» = call held.over.ended held.over.Symbol.routine (λ κs (file, _) r e. «over» file r)
+publicCall «held::next» = call held.next.ended held.next.Symbol.routine (λ κs (w, _) r e. «next» w r)
+publicCall «held::moved» = call held.moved.ended held.moved.Symbol.routine (λ κs (w, (place, _)) r e. «moved» w place r)
+publicCall «held::step_from» = call held.step_from.ended held.step_from.Symbol.routine (λ κs (file, (place, _)) r e. «step_from» (now file) place r)
+publicCall «held::row_is» = call held.row_is.ended held.row_is.Symbol.routine (λ κs (row, (address, _)) r e. «row_is» row address r)
+publicCall «held::find_row» = call held.find_row.ended held.find_row.Symbol.routine (λ κs (rows, (n, (address, _))) r e. «find_row» (now rows) n address r)
+publicCall «held::find_in» = call held.find_in.ended held.find_in.Symbol.routine (λ κs (rows, (n, (address, _))) r e. «find_in» rows n address r)
+publicCall «exports::blend_header» = call exports.blend_header.ended exports.blend_header.Symbol.routine (λ κs (file, _) r e. «blend_header» (now file) r)
+publicCall «exports::blend_read» =
+    lends exports.blend_read.ended exports.blend_read.Symbol.routine (λ κs (file, (table, _)) r (_, (table′, _)). «blend_read» (now file) (now table) r (now table′))
+    (λ κs (_, (table, _)) r (_, (table′, _)). Nonzero (r .refusal) → table′ ≡ now table)
+publicCall «exports::blend_catalogue» =
+    lends exports.blend_catalogue.ended exports.blend_catalogue.Symbol.routine (λ κs (payload, (order, (names, (types, (structs, (fields, _)))))) r (_, (_, (names′, (types′, (structs′, (fields′, _)))))). «blend_catalogue» (now payload) order (now names) (now types) (now structs) (now fields) r (now names′) (now types′) (now structs′) (now fields′))
+    (λ κs (_, (_, (names, (types, (structs, (fields, _)))))) r (_, (_, (names′, (types′, (structs′, (fields′, _)))))). Nonzero (r .refusal) → (names′ ≡ now names) × (types′ ≡ now types) × (structs′ ≡ now structs) × (fields′ ≡ now fields))
+publicCall «exports::blend_field» =
+    lends exports.blend_field.ended exports.blend_field.Symbol.routine (λ κs (name, (dimensions, _)) r (_, (dimensions′, _)). «blend_field» (now name) (now dimensions) r (now dimensions′))
+    (λ κs (_, (dimensions, _)) r (_, (dimensions′, _)). Nonzero (r .refusal) → dimensions′ ≡ now dimensions)
+publicCall «exports::blend_width» = call exports.blend_width.ended exports.blend_width.Symbol.routine (λ κs (kind, (length, (size, («pointer_bytes», _)))) r e. «blend_width» kind length size «pointer_bytes» r)
+publicCall «exports::blend_view» = call exports.blend_view.ended exports.blend_view.Symbol.routine (λ κs (file, (table, (row, _))) r e. «blend_view» (now file) (now table) row r)
+publicCall «exports::blend_lookup» = call exports.blend_lookup.ended exports.blend_lookup.Symbol.routine (λ κs (table, (rows, (address, _))) r e. «blend_lookup» (now table) rows address r)
+publicCall «exports::blend_u8» = call exports.blend_u8.ended exports.blend_u8.Symbol.routine (λ κs (slice, (order, _)) r e. «blend_u8» (now slice) order r)
+publicCall «exports::blend_u16» = call exports.blend_u16.ended exports.blend_u16.Symbol.routine (λ κs (slice, (order, _)) r e. «blend_u16» (now slice) order r)
+publicCall «exports::blend_u32» = call exports.blend_u32.ended exports.blend_u32.Symbol.routine (λ κs (slice, (order, _)) r e. «blend_u32» (now slice) order r)
+publicCall «exports::blend_u64» = call exports.blend_u64.ended exports.blend_u64.Symbol.routine (λ κs (slice, (order, _)) r e. «blend_u64» (now slice) order r)
+publicCall «demands::read» =
+    lends demands.read.ended demands.read.Symbol.routine (λ κs (file, (table, _)) r (_, (table′, _)). «read» (now file) (now table) r (now table′))
+    (λ κs (_, (table, _)) r (_, (table′, _)). Refused (paperBlend r) → table′ ≡ now table)
+publicCall «demands::read_two» =
+    lends demands.read_two.ended demands.read_two.Symbol.routine (λ κs (one, (first, (other, (second, _)))) r (_, (first′, (_, (second′, _)))). «read_two» (now one) (now first) (now other) (now second) r (now first′) (now second′))
+    (λ κs (_, (first, (_, (second, _)))) r (_, (first′, (_, (second′, _)))). (Refused (paperBlend (r .one)) → first′ ≡ now first) × (Refused (paperBlend (r .other)) → second′ ≡ now second))
