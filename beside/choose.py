@@ -4,7 +4,8 @@
 usage: choose.py EDGES BATCH RUST > stdin
 
 EDGES is the source of the program `edges`, whose declarators are taken; BATCH a generated batch and RUST the oracle's answers to it. The
-examples of document 01 come first, then the declarators of `edges`, then of each class of answers a few inputs, evenly over the batch.
+examples of document 01 come first, then the declarators of `edges`, then of each class of answers a few inputs, evenly over the batch;
+the names of the kinds and headers by themselves come last.
 """
 import re
 import struct
@@ -181,11 +182,19 @@ def generated(batch, rust):
                 put(kind, data)
 
 
+def headers():
+    put(b'N', b'')
+    for header in (b'BLENDE', b'BLENDER', b'BLENDER-', b'BLENDER-x', b'BLENDER-v28', HEAD, b'BLENDER_V999', b'BLENDER-v2x0', b'BLENDER-vxyz', HEAD + b'ENDB',
+                   b'BLENDER17-01v0501', b'BLENDER17_01V0501', b'BLENDERxx-yyV9999', b'BLENDER17-01v050', b'BLENDER17+01v0501', b'BLENDER17-01w0501', b'BLENDER1', b''):
+        put(b'H', header)
+
+
 def main():
     edges, batch, rust = sys.argv[1:]
     examples()
     declarators(edges)
     generated(batch, rust)
+    headers()
     for kind, data in out:
         sys.stdout.buffer.write(kind + struct.pack('<I', len(data)) + data)
 

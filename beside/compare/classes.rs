@@ -92,6 +92,10 @@ fn minimums() -> Vec<(String, u64)> {
         least(1000, format!("F refused {}", number));
     }
     least(100, "F refused 1".to_string());
+    least(1000, "H header".to_string());
+    least(100, "H refused 1".to_string());
+    least(1000, "H refused 2".to_string());
+    least(1, "N u8".to_string());
     least(1000, "F with several DNA1".to_string());
     for kind in ["value", "array", "pointer", "pointer-array", "fn", "refused 9", "panic", "not-utf8"].iter() {
         least(500, format!("D {}", kind));

@@ -35,7 +35,9 @@ pub fn write<W: Write>(batch: &mut Batch<W>) -> io::Result<()> {
     }
     for file in FILES {
         batch.put(b'F', file)?;
+        batch.put(b'H', file)?;
     }
+    batch.put(b'N', b"")?;
     for code in [b"OB\0\0", b"\0\0\0\0", b"REND", b"DATA", b"DNA1"].iter() {
         batch.put(b'F', &scene(*code))?;
     }

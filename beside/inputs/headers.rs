@@ -1,4 +1,4 @@
-//! Headers: document 01's examples, every cut, every byte left out and every byte written over, before blocks that are read.
+//! Headers: document 01's examples, every cut, every byte left out and every byte written over, before blocks that are read and by themselves.
 
 use crate::batch::Batch;
 use crate::random::Random;
@@ -30,7 +30,7 @@ const EXAMPLES: &[&[u8]] = &[
 pub fn write<W: Write>(random: &mut Random, count: usize, batch: &mut Batch<W>) -> io::Result<()> {
     batch.allow(count);
     for example in EXAMPLES {
-        batch.put(b'F', example)?;
+        both(example, batch)?;
     }
     for number in 0..8 {
         cuts(&Scene::any(random, Form::numbered(number)), batch)?;
@@ -45,21 +45,27 @@ pub fn write<W: Write>(random: &mut Random, count: usize, batch: &mut Batch<W>) 
         let form = Form::numbered(random.below(8));
         let mut scene = Scene::any(random, form);
         scene.header = any(random, form);
-        batch.put(b'F', &scene.bytes())?;
+        both(&scene.bytes(), batch)?;
     }
     Ok(())
+}
+
+/// As a file, and as a header.
+fn both<W: Write>(bytes: &[u8], batch: &mut Batch<W>) -> io::Result<()> {
+    batch.put(b'F', bytes)?;
+    batch.put(b'H', &bytes[..bytes.len().min(24)])
 }
 
 /// The header cut short, alone; and with each byte left out, before the blocks.
 fn cuts<W: Write>(scene: &Scene, batch: &mut Batch<W>) -> io::Result<()> {
     let bytes = scene.bytes();
     for length in 0..=scene.header.len() {
-        batch.put(b'F', &bytes[..length])?;
+        both(&bytes[..length], batch)?;
     }
     for at in 0..scene.header.len() {
         let mut without = bytes.clone();
         without.remove(at);
-        batch.put(b'F', &without)?;
+        both(&without, batch)?;
     }
     Ok(())
 }
@@ -72,7 +78,7 @@ fn over<W: Write>(random: &mut Random, form: Form, value: usize, batch: &mut Bat
         }
         let mut bytes = Scene::any(random, form).bytes();
         bytes[at] = FIRST.get(value).cloned().unwrap_or_else(|| (value - FIRST.len()) as u8);
-        batch.put(b'F', &bytes)?;
+        both(&bytes, batch)?;
     }
     Ok(())
 }

@@ -5,9 +5,9 @@
 //! COUNT inputs come from the seed alone; document 01's examples and the files that are given come before them. The shares, in hundredths of
 //! COUNT:
 //!
-//! - 24, declarators: all short ones over `()*[]+-019a` (up to 4 bytes of 200,000, up to 5 of 1,000,000), then longer ones with several
+//! - 20, declarators: all short ones over `()*[]+-019a` (up to 4 bytes of 200,000, up to 5 of 1,000,000), then longer ones with several
 //!   dimensions, numbers and products around 2^64, spaces, bytes that are not UTF-8.
-//! - 4, headers: document 01's examples, every cut, each byte left out or written over, before blocks that are read.
+//! - 8, headers: document 01's examples, every cut, each byte left out or written over, before blocks that are read and by themselves.
 //! - 17, scenes that are read, an eighth in each form: blocks of all codes, several DNA1 blocks, catalogues of any names, sizes and
 //!   padding, end marks inside payloads, bytes after the end mark.
 //! - 27, damaged scenes: a byte changed, dropped or put in; a cut; wrong sizes, addresses, counts, codes, catalogues, ends.
@@ -36,8 +36,8 @@ use std::io::{self, Stdout};
 type Section = fn(&mut Random, usize, &mut Batch<Stdout>) -> io::Result<()>;
 
 const SECTIONS: [(usize, Section); 8] = [
-    (24, declarators::write),
-    (4, headers::write),
+    (20, declarators::write),
+    (8, headers::write),
     (17, scenes::write),
     (27, damage::write),
     (4, mutations::write),

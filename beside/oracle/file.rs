@@ -17,6 +17,14 @@ pub fn answer(bytes: &[u8], out: &mut String) {
     }
 }
 
+/// A header by itself, by the Rust's `header`. What it took is what it does not hand back as the rest.
+pub fn header_answer(bytes: &[u8], out: &mut String) {
+    match again::header(bytes) {
+        Ok((rest, header)) => line!(out, "header {} {}", header_words_again(&header), bytes.len() - rest.len()),
+        Err(error) => line!(out, "refused {}", number_in_nom(error)),
+    }
+}
+
 /// Document 01's number of a refusal; 0 for those that do not occur.
 pub fn number(error: &BlendParseError) -> u32 {
     match error {

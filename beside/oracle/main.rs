@@ -5,17 +5,19 @@
 //!
 //! - `F`, a whole file: `file E P O MAJOR MINOR ROWS END N T S F`, and for each row
 //!   `row CODE ADDRESS INDEX COUNT AT PAYLOAD-AT LENGTH FNV1A64-OF-PAYLOAD`; or `refused N`.
+//! - `H`, a file's header by itself: `header E P O MAJOR MINOR LENGTH`, or `refused N`.
 //! - `D`, a declarator: `value`, `array`, `pointer`, `pointer-array` or `fn`, then `NAME-AT NAME-LENGTH REST-AT`, then the indirection of a
 //!   pointer, then the length, the number of dimensions and the dimensions of an array; or `refused 9`, `not-utf8`, `panic`.
 //! - `C`, `c`, a catalogue in little or big order: `dna N T S F END`, then all `name LENGTH BYTES`, all `type SIZE LENGTH BYTES`, all
 //!   `struct TYPE FIRST COUNT`, all `field TYPE NAME`; or `refused 2`. A name that holds U+FFFD has `lossy` in place of the length. Where
 //!   there are no bytes the line ends after the length.
 //! - `P`, a slice: `KIND ORDER VALUE` for each kind, in little order and then in big; or `KIND ORDER panic`.
+//! - `N`, whatever the input: `KIND NAME` for each kind of primitive value.
 //! - `A`, an address of 8 bytes, little-endian, and a whole file: `null`, `found ROW` or `missing`, then for each row `code CODE` or
 //!   `code none`; or `refused N`.
 //!
 //! Any answer may be `panic`, where the Rust panics; `memory`, for an input longer than `memory::LONGEST`, which is not asked; and
-//! `oracle-inconsistent`, where two readings by the Rust differ. The argument `names` prints the names of the primitive kinds instead.
+//! `oracle-inconsistent`, where two readings by the Rust differ.
 
 #[macro_use]
 mod text;
@@ -41,21 +43,10 @@ static ALLOCATOR: memory::Capped = memory::Capped;
 fn main() {
     // A panic is an answer here; its message would only be noise.
     std::panic::set_hook(Box::new(|_| {}));
-    let outcome = match std::env::args().nth(1).as_deref() {
-        None => batch(),
-        Some("names") => names(),
-        Some(_) => Err(io::Error::new(io::ErrorKind::InvalidInput, "usage: oracle [names] < batch")),
-    };
-    if let Err(error) = outcome {
+    if let Err(error) = batch() {
         eprintln!("oracle: {}", error);
         std::process::exit(2);
     }
-}
-
-fn names() -> io::Result<()> {
-    let mut text = String::new();
-    values::names(&mut text);
-    io::stdout().write_all(text.as_bytes())
 }
 
 fn batch() -> io::Result<()> {
@@ -102,10 +93,12 @@ fn answer(kind: u8, bytes: &[u8]) -> String {
         let mut text = String::new();
         match kind {
             b'F' => file::answer(bytes, &mut text),
+            b'H' => file::header_answer(bytes, &mut text),
             b'D' => declarator::answer(bytes, &mut text),
             b'C' => catalogue::answer(bytes, Endianness::Little, &mut text),
             b'c' => catalogue::answer(bytes, Endianness::Big, &mut text),
             b'P' => values::answer(bytes, &mut text),
+            b'N' => values::names(&mut text),
             b'A' => address::answer(bytes, &mut text),
             _ => text.push_str("bad-kind\n"),
         }

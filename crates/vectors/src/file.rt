@@ -11,8 +11,10 @@ use blend::FileFormat;
 use blend::Header;
 use blend::Row;
 use blend::blend::BlendAnswer;
+use blend::blend::HeaderAnswer;
 use blend::blend::RawBlend;
 use blend::blend::blend;
+use blend::blend::header;
 use blend::walker::Place;
 use blend::walker::Step;
 use primitive::PointerSize;
@@ -256,5 +258,20 @@ pub fn answer(space: &mut [u8; SIZE], at: &mut usize, file: &[u8]) {
             walk_line(space, at, walk_is_refused(file, n));
         }
         BlendAnswer::TableTooShort(rows) => too_short_line(space, at, rows),
+    }
+}
+
+fn header_line(space: &mut [u8; SIZE], at: &mut usize, h: Header, length: usize) {
+    text(space, at, b"header");
+    header_words(space, at, h);
+    word(space, at, length as u64);
+    end(space, at);
+}
+
+// A header by itself.
+pub fn header_answer(space: &mut [u8; SIZE], at: &mut usize, bytes: &[u8]) {
+    match header(bytes) {
+        HeaderAnswer::Is(h, length) => header_line(space, at, h, length),
+        HeaderAnswer::Refused(n) => refused_line(space, at, n),
     }
 }

@@ -7,11 +7,13 @@
 // - `F`, a whole file: `file E P O MAJOR MINOR ROWS END N T S F`, and for each row
 //   `row CODE ADDRESS INDEX COUNT AT PAYLOAD-AT LENGTH FNV1A64-OF-PAYLOAD`; or `refused N`. A further line `walk differs` where the walker
 //   does not give the same rows and the same end or refusal.
+// - `H`, a file's header by itself: `header E P O MAJOR MINOR LENGTH`, or `refused N`.
 // - `D`, a declarator: `value`, `array`, `pointer`, `pointer-array` or `fn`, then `NAME-AT NAME-LENGTH REST-AT`, then the indirection of a
 //   pointer, then the length, the number of dimensions and the dimensions of an array; or `refused N`.
 // - `C`, `c`, a catalogue in little or big order: `dna N T S F END`, then all `name LENGTH BYTES`, all `type SIZE LENGTH BYTES`, all
 //   `struct TYPE FIRST COUNT`, all `field TYPE NAME`; or `refused N`.
 // - `P`, a slice: `KIND ORDER VALUE` for each kind, in little order and then in big; or `KIND ORDER refused 12`.
+// - `N`, whatever the input: `KIND NAME` for each kind of primitive value.
 // - `A`, an address of 8 bytes, little-endian, and a whole file: `null`, `found ROW` or `missing`, then for each row `code CODE` or
 //   `code none`; or `refused N`.
 //
@@ -20,6 +22,7 @@ mod address;
 mod catalogue;
 mod declarator;
 mod file;
+mod names;
 mod out;
 mod values;
 
@@ -38,10 +41,12 @@ const LONGEST: usize = 131072;
 fn answer(space: &mut [u8; SIZE], at: &mut usize, kind: u8, bytes: &[u8]) {
     match kind {
         b'F' => file::answer(space, at, bytes),
+        b'H' => file::header_answer(space, at, bytes),
         b'D' => declarator::answer(space, at, bytes),
         b'C' => catalogue::answer(space, at, bytes, Endianness::Little),
         b'c' => catalogue::answer(space, at, bytes, Endianness::Big),
         b'P' => values::answer(space, at, bytes),
+        b'N' => names::answer(space, at),
         b'A' => address::answer(space, at, bytes),
         _ => text(space, at, b"bad-kind\n"),
     }
