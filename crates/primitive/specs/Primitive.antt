@@ -81,6 +81,6 @@ paperF64 (ValueF64.Is x) = real x
 paperF64 (ValueF64.Nan n) = accepts 1 (n ∷ [])
 paperF64 ValueF64.Short = valueSliceTooShort
 
--- a name of `blender_name` as it comes out: its bytes, zeros after them, and how many there are. src/primitive.rt says which kind has which
+-- a name of `blender_name` as it comes out: its bytes, zeros after them, and how many there are. specs/Calls.antt says which kind has which
 abbrev pub named : List ℕ → Name
 named bs = record { bytes = bs ++ replicate (8 - length bs) 0; len = length bs }
