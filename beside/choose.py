@@ -3,8 +3,8 @@
 
 usage: choose.py EDGES BATCH RUST > stdin
 
-EDGES is the source of the program `edges`, whose declarators are taken; BATCH a generated batch and RUST the oracle's answers to it. The
-examples of document 01 come first, then the declarators of `edges`, then of each class of answers a few inputs, evenly over the batch;
+EDGES is crates/vectors/data/declarators, whose declarators are taken; BATCH a generated batch and RUST the oracle's answers to it. The
+examples of document 01 come first, then the declarators of EDGES, then of each class of answers a few inputs, evenly over the batch;
 the names of the kinds and headers by themselves come last.
 """
 import re
@@ -68,10 +68,8 @@ def examples():
 
 
 def declarators(path):
-    source = open(path, encoding='utf-8').read()
     seen = {data for kind, data in out if kind == b'D'}
-    for text in re.findall(r'with_(?:one|two|three)\(b"((?:[^"\\]|\\.)*)"\)', source):
-        name = re.sub(rb'\\x(..)', lambda m: bytes([int(m.group(1), 16)]), text.encode())
+    for asked, name in re.findall(rb'^([123]) (.*)$', open(path, 'rb').read(), re.MULTILINE):
         if name not in seen:
             seen.add(name)
             declarator(name)

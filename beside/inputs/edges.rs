@@ -1,4 +1,4 @@
-//! Document 01's examples at the edges, and the other inputs that the programs of crates/edges and crates/scene run: every batch begins with them.
+//! Document 01's examples at the edges, and the other inputs that the programs of crates/vectors and crates/scene run: every batch begins with them.
 
 use crate::batch::Batch;
 use std::io::{self, Write};

@@ -5,28 +5,30 @@ use mathlib.Core.Path.{_≡_, refl, sym, _∙_, ap}
 use native.Mathlib.Omega.{arith}
 use borrow.Author.Tests.{lt-ltb, le-ltb}
 use lib.ListN.{length}
-use Rattle.primitive.specs.declared.Fault.{Fault}
-use Rattle.primitive.specs.Helpers.{put}
-use Rattle.primitive.specs.Paper.{Paper}
-use Rattle.primitive.specs.Paper.Paper.{accepts, refuses}
-use Rattle.primitive.specs.Reader.{Outcome, run}
-use Rattle.primitive.specs.Reader.Outcome.{read, fault}
-use Rattle.primitive.specs.Refusals.{blockTableTooShort, paperFault}
-use Rattle.primitive.specs.Tables.{over, written}
-use Rattle.primitive.proofs.Extent.{ends-within}
-use Rattle.primitive.proofs.Filling.{put-over}
-use Rattle.primitive.proofs.Tests.{held, failed}
+use Rattle.bytes.specs.declared.Fault.{Fault}
+use Rattle.bytes.specs.Helpers.{put}
+use Rattle.bytes.specs.Paper.{Paper}
+use Rattle.bytes.specs.Paper.Paper.{accepts, refuses}
+use Rattle.bytes.specs.Reader.{Outcome, run}
+use Rattle.bytes.specs.Reader.Outcome.{read, fault}
+use Rattle.bytes.specs.Refusals.{blockTableTooShort, paperFault}
+use Rattle.bytes.specs.Tables.{over, written}
+use Rattle.bytes.proofs.Extent.{ends-within}
+use Rattle.bytes.proofs.Filling.{put-over}
+use Rattle.bytes.proofs.Tests.{held, failed}
 use Rattle.dna.specs.declared.dna.DnaCounts.{DnaCounts}
-use Rattle.blend.specs.declared.Header.{Header}
+use Rattle.header.specs.declared.Header.{Header}
 use Rattle.blend.specs.declared.Row.{Row}
 use Rattle.blend.specs.declared.blend.Chained.{Chained}
-use Rattle.blend.specs.declared.blend.HeaderAnswer.{HeaderAnswer}
+use Rattle.header.specs.declared.blend.HeaderAnswer.{HeaderAnswer}
 use Rattle.blend.specs.declared.blend.Last.{Last}
-use Rattle.blend.specs.Header.{HeaderBytes, headerBytes, valued, headerNumbers, headerAs, paperHeader, refusalOf}
-use Rattle.blend.specs.Chain.{Chain, chainFrom, rowTable, countNumbers, answerFor, onHeader, readAs, rowsOf, fileBy, tableAfter}
+use Rattle.header.specs.Header.{HeaderBytes, headerBytes, valued, headerNumbers, headerAs, paperHeader, refusalOf}
+use Rattle.blend.specs.Chain.{Chain, chainFrom, countNumbers, answerFor, onHeader, readAs, rowsOf, fileBy, tableAfter}
+use Rattle.blend.specs.Rows.{perRow, rowTable}
 use Rattle.blend.specs.Helpers.{summed, summedAs, rowsFrom}
-use Rattle.blend.proofs.Chains.{rows-again, table-length}
-use Rattle.blend.proofs.Lossless.{header-known, header-refused}
+use Rattle.blend.proofs.Chains.{rows-again}
+use Rattle.blend.proofs.Tables.{table-length}
+use Rattle.header.proofs.Lossless.{header-known, header-refused}
 
 -- what the first pass tells of the chain
 module _ (c : Chain) where
@@ -70,16 +72,16 @@ module _ (h : Header) (s : List ℕ) (from rows : ℕ) (n : DnaCounts) (end : �
   rows-same =
       ap (λ (k : ℕ). rowsFrom k h s from) (sym (summed-ends (chainFrom h s from) rows n end e .1)) ∙ rows-again (suc (length s)) h s from Last.Other
 
-  rows-long : (t : List ℕ) → rows ≤ length t / 7 → length (rowTable (chainFrom h s from .rows)) ≤ length t
+  rows-long : (t : List ℕ) → rows ≤ length t / perRow → length (rowTable (chainFrom h s from .rows)) ≤ length t
   rows-long t g = omega (arith, table-length (chainFrom h s from .rows), summed-ends (chainFrom h s from) rows n end e .1)
 
-  pub rows-fit : (t : List ℕ) → rows ≤ length t / 7 → length (rowTable (rowsFrom rows h s from)) ≤ length t
+  pub rows-fit : (t : List ℕ) → rows ≤ length t / perRow → length (rowTable (rowsFrom rows h s from)) ≤ length t
   rows-fit t g = rw rows-same (rows-long t g)
 
   pub rows-all : length (rowsFrom rows h s from) ≡ rows
   rows-all = ap length rows-same ∙ summed-ends (chainFrom h s from) rows n end e .1
 
-  pub rows-written : (t t′ : List ℕ) → rows ≤ length t / 7 → t′ ≡ put t 0 (rowTable (rowsFrom rows h s from)) → t′ ≡ over (rowTable (chainFrom h s from .rows)) t
+  pub rows-written : (t t′ : List ℕ) → rows ≤ length t / perRow → t′ ≡ put t 0 (rowTable (rowsFrom rows h s from)) → t′ ≡ over (rowTable (chainFrom h s from .rows)) t
   rows-written t t′ g w = w ∙ ap (λ (rs : List Row). put t 0 (rowTable rs)) rows-same ∙ put-over t (rowTable (chainFrom h s from .rows)) (rows-long t g)
 
 -- the header first
@@ -105,11 +107,11 @@ module _ (s : List ℕ) where
     unfolding readAs
     file-read room = sym (ap (λ (o : Outcome Header). readAs (onHeader s o) room) header-found)
 
-    pub file-table : (p : Paper) (t t′ : List ℕ) → p ≡ answerFor h (length (chainFrom h s at .rows)) (length t / 7) (chainFrom h s at .last)
+    pub file-table : (p : Paper) (t t′ : List ℕ) → p ≡ answerFor h (length (chainFrom h s at .rows)) (length t / perRow) (chainFrom h s at .last)
         → t′ ≡ written p (rowTable (chainFrom h s at .rows)) t → t′ ≡ tableAfter (fileBy headerBytes s) t
     file-table p t t′ g w =
-        w ∙ ap (λ (q : Paper). written q (rowTable (chainFrom h s at .rows)) t) (g ∙ file-read (length t / 7))
-        ∙ ap (λ (o : Outcome Header). written (readAs (fileBy headerBytes s) (length t / 7)) (rowTable (rowsOf (onHeader s o))) t) (sym header-found)
+        w ∙ ap (λ (q : Paper). written q (rowTable (chainFrom h s at .rows)) t) (g ∙ file-read (length t / perRow))
+        ∙ ap (λ (o : Outcome Header). written (readAs (fileBy headerBytes s) (length t / perRow)) (rowTable (rowsOf (onHeader s o))) t) (sym header-found)
 
   module _ (a : HeaderAnswer) (e : paperHeader a ≡ headerAs (valued (run headerBytes s 0))) (n k : ℕ) (g : a ≡ HeaderAnswer.Refused n) (w : k ≡ refusalOf a) where
     told : (x : Fault) × (valued (run headerBytes s 0) ≡ fault x) × (refuses n [] ≡ paperFault x)

@@ -1,34 +1,31 @@
 -- Laws of the chain: each block moves on, enough boundaries are always left, and the rows are those that the second pass goes over again.
-use Prim.Native.Nat.{ℕ, zero, suc, _+_, _*_, _-_, _≤_, _<_}
+use Prim.Native.Nat.{ℕ, zero, suc, _+_, _-_, _≤_, _<_}
 use mathlib.Core.Bool.{Bool, true, false}
 use mathlib.Core.List.{List, [], _∷_, _++_}
 use mathlib.Core.Path.{_≡_, refl, sym, _∙_, ap}
-use native.Mathlib.Nat.{mul-suc}
 use native.Mathlib.Omega.{arith}
 use lib.ListN.{length}
-use Rattle.primitive.specs.declared.Fault.{Fault}
-use Rattle.primitive.specs.declared.Fault.the-variants.{Cut}
-use Rattle.primitive.specs.declared.PointerSize.{PointerSize}
-use Rattle.primitive.specs.declared.PointerSize.the-variants.{Bits32, Bits64}
-use Rattle.primitive.specs.Ascii.{ascii}
-use Rattle.primitive.specs.Helpers.{goOn}
-use Rattle.primitive.specs.Reader.{Outcome, run, stands}
-use Rattle.primitive.specs.Reader.Outcome.{read, fault}
-use Rattle.primitive.proofs.Marks.{stands-cut, stands-room}
-use Rattle.primitive.proofs.Reading.{bytes-out}
-use Rattle.primitive.proofs.Tests.{held, failed}
+use Rattle.bytes.specs.declared.Fault.{Fault}
+use Rattle.bytes.specs.declared.Fault.the-variants.{Cut}
+use Rattle.bytes.specs.Ascii.{ascii}
+use Rattle.bytes.specs.Helpers.{goOn}
+use Rattle.bytes.specs.Reader.{Outcome, run, stands}
+use Rattle.bytes.specs.Reader.Outcome.{read, fault}
+use Rattle.bytes.proofs.Marks.{stands-cut, stands-room}
+use Rattle.bytes.proofs.Tests.{held, failed}
 use Rattle.dna.specs.Catalogue.{Dna, catalogue}
-use Rattle.blend.specs.declared.FileFormat.{FileFormat}
-use Rattle.blend.specs.declared.FileFormat.the-variants.{Legacy, New}
-use Rattle.blend.specs.declared.Header.{Header}
+use Rattle.header.specs.declared.Header.{Header}
 use Rattle.blend.specs.declared.Row.{Row}
 use Rattle.blend.specs.declared.blend.Last.{Last}
+use Rattle.blend.specs.declared.blend.Pass.{Pass}
 use Rattle.blend.specs.declared.blend.Boundary.{Boundary}
 use Rattle.blend.specs.declared.blend.Chained.{Chained}
-use Rattle.blend.specs.Blocks.{blockHeaderLength, kindOf, isDna, rowAt, payloadOf, catalogued, finished, onRow, boundaryOf}
-use Rattle.blend.specs.Chain.{Chain, ended, link, chain, chainFrom, rowNumbers, rowTable}
+use Rattle.blend.specs.Blocks.{kindOf, isDna, rowAt, payloadOf, catalogued, finished, onRow, boundaryOf}
+use Rattle.blend.specs.Chain.{Chain, ended, link, chain, chainFrom}
+use Rattle.blend.specs.Rows.{rowNumbers, rowTable}
 use Rattle.blend.specs.Helpers.{summed, summedAs, rowsFrom}
-use Rattle.blend.proofs.Layouts.{block-header-stops}
+use Rattle.header.proofs.Lengths.{header-at-least}
+use Rattle.blend.proofs.Layouts.{code-cut}
 use Rattle.blend.proofs.Rows.{Lies, row-lies, row-no-header, boundary-stops}
 
 -- a block at a boundary has its row
@@ -66,24 +63,18 @@ module _ (h : Header) (s : List ℕ) (at : ℕ) (r : Row) (l : Last) (next : ℕ
   pub block-lies : boundaryOf h s at ≡ Boundary.Block r l next → Lies h s at r next
   block-lies e = row-lies h s at r next (block-row e)
 
-pub header-long : (f : FileFormat) (p : PointerSize) → 20 ≤ blockHeaderLength f p
-header-long Legacy Bits32 = omega arith
-header-long Legacy Bits64 = omega arith
-header-long New Bits32 = omega arith
-header-long New Bits64 = omega arith
-
 -- the next boundary is further on, and in the file
 pub block-moves : (h : Header) (s : List ℕ) (at : ℕ) (r : Row) (l : Last) (next : ℕ) → boundaryOf h s at ≡ Boundary.Block r l next → (at + 20 ≤ next) × (next ≤ length s)
 block-moves h s at r l next e =
     let w = block-lies h s at r l next e in
-    (omega (arith, w .header, w .payload, header-long (h .format) (h .«pointer_size»)), w .inside)
+    (omega (arith, w .header, w .payload, header-at-least (h .format) (h .«pointer_size»)), w .inside)
 
 -- nothing is read at the end of the file
 pub end-stops : (h : Header) (s : List ℕ) (at : ℕ) → length s ≤ at → boundaryOf h s at ≡ Boundary.Stopped (Cut at)
 end-stops h s at e =
     let k : length s < at + 4 = omega arith in
     sym (boundary-stops h s at (sym (stands-cut s at (ascii "ENDB") (λ z. absurd (omega arith)) k)) (Cut at)
-    (row-no-header h s at (Cut at) (block-header-stops h s at (Cut at) (sym (bytes-out 4 _ s at k)))))
+    (row-no-header h s at (Cut at) (code-cut h s at k)))
 
 -- Fuel: where more boundaries are left than bytes, one more can be taken off, and any number that is enough gives the same.
 module _ (h : Header) (s : List ℕ) where
@@ -107,48 +98,49 @@ module _ (h : Header) (s : List ℕ) where
           ap (λ (c : Chain). record { rows = r ∷ c .rows; last = c .last }) (f next l (omega (arith, w .0)) (omega (arith, w .0)) (w .1))
 
 -- The first pass: what it has counted and what is left.
-pub record Counting (h : Header) (s : List ℕ) (from at rows : ℕ) (last : Last) : Type 0 where
+pub record Counting (h : Header) (s : List ℕ) (from : ℕ) (p : Pass) : Type 0 where
   pub fuel : ℕ
-  pub enough : length s < at + fuel
-  pub inside : at ≤ length s
-  pub few : rows ≤ at
-  pub same : summed 0 (chainFrom h s from) ≡ summed rows (chain fuel h s at last)
+  pub enough : length s < p .at + fuel
+  pub inside : p .at ≤ length s
+  pub few : p .rows ≤ p .at
+  pub same : summed 0 (chainFrom h s from) ≡ summed (p .rows) (chain fuel h s (p .at) (p .last))
 
 module _ (h : Header) (s : List ℕ) (from : ℕ) where
-  pub counting-starts : from ≤ length s → Counting h s from from 0 Last.Other
+  pub counting-starts : from ≤ length s → Counting h s from (record { at = from; rows = 0; last = Last.Other })
   unfolding chainFrom
   counting-starts e = record { fuel = suc (length s); enough = omega arith; inside = e; few = omega arith; same = refl }
 
-  module _ (at rows : ℕ) (last : Last) (c : Counting h s from at rows last) where
-    linked : (k : ℕ) × (summed 0 (chainFrom h s from) ≡ summed rows (link (boundaryOf h s at) last at (chain k h s))) × (length s < at + suc k)
+  module _ (p : Pass) (c : Counting h s from p) where
+    linked : (k : ℕ) × (summed 0 (chainFrom h s from) ≡ summed (p .rows) (link (boundaryOf h s (p .at)) (p .last) (p .at) (chain k h s))) × (length s < p .at + suc k)
     unfolding chain
     linked =
-        let w = one-less h s (c .fuel) at (c .enough) (c .inside) in
-        (w .0, c .same ∙ ap (λ (n : ℕ). summed rows (chain n h s at last)) (w .1), rw (w .1) at (c .enough))
+        let w = one-less h s (c .fuel) (p .at) (c .enough) (c .inside) in
+        (w .0, c .same ∙ ap (λ (n : ℕ). summed (p .rows) (chain n h s (p .at) (p .last))) (w .1), rw (w .1) at (c .enough))
 
-    linked-by : (b : Boundary) → boundaryOf h s at ≡ b → summed 0 (chainFrom h s from) ≡ summed rows (link b last at (chain (linked .0) h s))
-    linked-by b e = linked .1 ∙ ap (λ (d : Boundary). summed rows (link d last at (chain (linked .0) h s))) e
+    linked-by : (b : Boundary) → boundaryOf h s (p .at) ≡ b → summed 0 (chainFrom h s from) ≡ summed (p .rows) (link b (p .last) (p .at) (chain (linked .0) h s))
+    linked-by b e = linked .1 ∙ ap (λ (d : Boundary). summed (p .rows) (link d (p .last) (p .at) (chain (linked .0) h s))) e
 
-    pub counting-ends : boundaryOf h s at ≡ Boundary.EndMark → summedAs rows (ended last (at + 4)) ≡ summed 0 (chainFrom h s from)
+    pub counting-ends : boundaryOf h s (p .at) ≡ Boundary.EndMark → summedAs (p .rows) (ended (p .last) (p .at + 4)) ≡ summed 0 (chainFrom h s from)
     counting-ends e =
-        let z : rows + 0 ≡ rows = omega arith in
-        sym (linked-by Boundary.EndMark e ∙ ap (λ (n : ℕ). summedAs n (ended last (at + 4))) z)
+        let z : p .rows + 0 ≡ p .rows = omega arith in
+        sym (linked-by Boundary.EndMark e ∙ ap (λ (n : ℕ). summedAs n (ended (p .last) (p .at + 4))) z)
 
-    pub counting-stops : (x : Fault) → boundaryOf h s at ≡ Boundary.Stopped x → Chained.Stopped x ≡ summed 0 (chainFrom h s from)
+    pub counting-stops : (x : Fault) → boundaryOf h s (p .at) ≡ Boundary.Stopped x → Chained.Stopped x ≡ summed 0 (chainFrom h s from)
     counting-stops x e = sym (linked-by (Boundary.Stopped x) e)
 
-    pub counting-more : (r : Row) (l : Last) (next : ℕ) → boundaryOf h s at ≡ Boundary.Block r l next → Counting h s from next (rows + 1) l
-    counting-more r l next e =
-        let w = block-moves h s at r l next e in
+    pub counting-more : (r : Row) (l : Last) (next : ℕ) → boundaryOf h s (p .at) ≡ Boundary.Block r l next → (q : Pass) → q ≡ record { at = next; rows = p .rows + 1; last = l }
+        → Counting h s from q
+    counting-more r l next e q t =
+        let w = block-moves h s (p .at) r l next e in
         let k = linked .0 in
-        let z : rows + suc (length (chain k h s next l .rows)) ≡ rows + 1 + length (chain k h s next l .rows) = omega arith in
-        record {
+        let z : p .rows + suc (length (chain k h s next l .rows)) ≡ p .rows + 1 + length (chain k h s next l .rows) = omega arith in
+        rw t (record {
           fuel = k;
           enough = omega (arith, linked .2, w .0);
           inside = w .1;
           few = omega (arith, w .0, c .few);
           same = linked-by (Boundary.Block r l next) e ∙ ap (λ (n : ℕ). summedAs n (chain k h s next l .last)) z;
-        }
+        })
 
 -- The second pass: the rows of the chain, read again without its end marks and catalogues.
 pub rows-again : (n : ℕ) (h : Header) (s : List ℕ) (at : ℕ) (last : Last) → rowsFrom (length (chain n h s at last .rows)) h s at ≡ chain n h s at last .rows
@@ -162,11 +154,6 @@ rows-again (suc n) h s at last = go (boundaryOf h s at) refl (λ next l. rows-ag
     go (Boundary.Stopped x) t f = refl
     go (Boundary.Block r l next) t f =
         ap (λ (o : Outcome Row). goOn o (rowsFrom (length (chain n h s next l .rows)) h s)) (block-row h s at r l next t) ∙ ap (λ (q : List Row). r ∷ q) (f next l)
-
-pub table-length : (rs : List Row) → length (rowTable rs) ≡ 7 * length rs
-unfolding rowTable
-table-length [] = refl
-table-length (r ∷ rs) = omega (arith, table-length rs, mul-suc 7 (length rs))
 
 -- an end mark stands there, and is in the file
 pub mark-stands : (h : Header) (s : List ℕ) (at : ℕ) → boundaryOf h s at ≡ Boundary.EndMark → stands s at (ascii "ENDB") ≡ true

@@ -1,35 +1,20 @@
 -- The rules at small inputs, computed.
 use Prim.Native.Nat.{ℕ}
-use mathlib.Core.Bool.{true, false}
 use mathlib.Core.List.{List, [], _∷_, _++_}
 use mathlib.Core.Path.{_≡_, refl}
 use lib.ListN.{replicate}
-use Rattle.primitive.specs.declared.Endianness.the-variants.{Big}
-use Rattle.primitive.specs.declared.PointerSize.the-variants.{Bits32}
-use Rattle.primitive.specs.Ascii.{ascii}
-use Rattle.primitive.specs.Paper.Paper.{accepts, refuses}
-use Rattle.primitive.specs.Reader.{run, then, times}
-use Rattle.primitive.specs.Reader.Outcome.{read}
+use Rattle.bytes.specs.declared.Endianness.the-variants.{Big}
+use Rattle.bytes.specs.declared.PointerSize.the-variants.{Bits32}
+use Rattle.bytes.specs.Ascii.{ascii}
+use Rattle.bytes.specs.Paper.Paper.{accepts, refuses}
+use Rattle.bytes.specs.Reader.{run, then, times}
+use Rattle.bytes.specs.Reader.Outcome.{read}
 use Rattle.dna.specs.Catalogue.{catalogue, listed, strings, sized, struct, structured, fieldCount}
-use Rattle.blend.specs.declared.FileFormat.the-variants.{Legacy, New}
-use Rattle.blend.specs.Header.{decimal, legacy, new, headerBytes, valued, headerAs, versionOf}
+use Rattle.header.specs.declared.FileFormat.the-variants.{Legacy, New}
+use Rattle.header.specs.Header.{decimal, legacy, new, headerBytes}
 use Rattle.blend.specs.Blocks.{fields, blockHeader, kindOf, block, rowAt, finished, boundaryOf}
-use Rattle.blend.specs.Chain.{chain, chainFrom, fileBy, readAs, rowTable, rowsOf}
-use Rattle.blend.specs.Walker.{stepBy, start}
-
--- headers: no magic, nothing after it, one of each edition, and a wrong mark; in a New header the unchecked bytes are anything
-headers : (headerAs (valued (run headerBytes (ascii "BLENDE") 0)) ≡ refuses 1 []) × (headerAs (valued (run headerBytes (ascii "BLENDER") 0)) ≡ refuses 2 [])
-    × (headerAs (valued (run headerBytes (ascii "BLENDER-v280") 0)) ≡ accepts 0 (0 ∷ 8 ∷ 0 ∷ 2 ∷ 80 ∷ 12 ∷ []))
-    × (headerAs (valued (run headerBytes (ascii "BLENDER17_01V0501") 0)) ≡ accepts 0 (1 ∷ 4 ∷ 1 ∷ 5 ∷ 1 ∷ 17 ∷ []))
-    × (headerAs (valued (run headerBytes (ascii "BLENDERxx_xxV0501") 0)) ≡ accepts 0 (1 ∷ 4 ∷ 1 ∷ 5 ∷ 1 ∷ 17 ∷ []))
-    × (headerAs (valued (run headerBytes (ascii "BLENDER_x280") 0)) ≡ refuses 2 [])
-unfolding run headerBytes legacy new decimal
-headers = (refl, refl, refl, refl, refl, refl)
-
-versions : (versionOf (ascii "0501") ≡ record { major = 5; minor = 1 }) × (versionOf (ascii "2x0") ≡ record { major = 0; minor = 20 })
-    × (versionOf (ascii "xyz") ≡ record { major = 0; minor = 0 })
-unfolding decimal
-versions = (refl, refl, refl)
+use Rattle.blend.specs.Chain.{chain, chainFrom, fileBy, readAs, rowsOf}
+use Rattle.blend.specs.Rows.{rowTable}
 
 -- block headers of two forms: code "DATA", size 0, address 1, index 2, count 3. In the New one only the address is in the file's order.
 blocks :
@@ -67,9 +52,3 @@ refusals : (readAs (fileBy headerBytes (single (0 ∷ 0 ∷ 0 ∷ 0 ∷ []) 1 1)
     × (readAs (fileBy headerBytes (ascii "BLENDER-v280")) 9 ≡ refuses 2 []) × (readAs (fileBy headerBytes (ascii "BLENDER-v280ENDB")) 9 ≡ refuses 6 [])
 unfolding run then times headerBytes legacy new decimal chainFrom chain boundaryOf rowAt block blockHeader fields kindOf finished catalogue listed strings sized structured struct fieldCount readAs
 refusals = (refl, refl, refl, refl, refl, refl)
-
--- The walker: the first block, and the end from the place after the last; a place past the end; the view of the first row and of none.
-steps : (stepBy headerBytes hull start .answer ≡ accepts 0 (1329725440 ∷ 16 ∷ 3 ∷ 1 ∷ 12 ∷ 36 ∷ 4 ∷ [])) × (stepBy headerBytes hull start .place ≡ record { at = 40; dna = false })
-    × (stepBy headerBytes hull (record { at = 116; dna = true }) .answer ≡ accepts 1 (120 ∷ [])) × (stepBy headerBytes hull (record { at = 121; dna = true }) .answer ≡ refuses 13 [])
-unfolding run then times headerBytes legacy new decimal boundaryOf rowAt block blockHeader fields kindOf finished catalogue listed strings sized structured struct fieldCount stepBy hull
-steps = (refl, refl, refl, refl)

@@ -1,177 +1,230 @@
--- Laws of a block header's layout: its length, how its tree goes on read by read, and how far it goes.
-use Prim.Native.Nat.{ℕ, _+_, _≤_}
-use mathlib.Core.Bool.{Bool, true, false}
+-- Laws of a block header: how its tree goes on number by number, all of it there or not, and how far it goes.
+use Prim.Native.Nat.{ℕ, _+_, _≤_, _<_}
+use mathlib.Core.Bool.{Bool, true, false, _||_}
 use mathlib.Core.List.{List, [], _∷_}
 use mathlib.Core.Path.{_≡_, refl, sym, _∙_, ap}
 use native.Mathlib.Omega.{arith}
 use borrow.Author.Tests.{eq-eqb, ne-eqb}
 use lib.Dec.{eqb}
-use Rattle.primitive.specs.declared.Endianness.{Endianness}
-use Rattle.primitive.specs.declared.Endianness.the-variants.{Big}
-use Rattle.primitive.specs.declared.Fault.{Fault}
-use Rattle.primitive.specs.declared.Fault.the-variants.{Refusal}
-use Rattle.primitive.specs.declared.PointerSize.{PointerSize}
-use Rattle.primitive.specs.declared.PointerSize.the-variants.{Bits32, Bits64}
-use Rattle.primitive.specs.Number.{number}
-use Rattle.primitive.specs.PointerSize.{pointerBytes}
-use Rattle.primitive.specs.Reader.{Reader, Outcome, run}
-use Rattle.primitive.specs.Reader.Reader.{done, refuse}
-use Rattle.primitive.specs.Reader.Outcome.{read, fault}
-use Rattle.primitive.proofs.Onward.{number-on, number-stops, number-moves}
-use Rattle.primitive.proofs.Reading.{onwards}
-use Rattle.primitive.proofs.Tests.{held, failed}
-use Rattle.blend.specs.declared.FileFormat.{FileFormat}
-use Rattle.blend.specs.declared.FileFormat.the-variants.{Legacy, New}
-use Rattle.blend.specs.declared.Header.{Header}
+use lib.ListN.{length, drop}
+use Rattle.bytes.specs.declared.Endianness.{Endianness}
+use Rattle.bytes.specs.declared.Endianness.the-variants.{Little, Big}
+use Rattle.bytes.specs.declared.Fault.{Fault}
+use Rattle.bytes.specs.declared.Fault.the-variants.{Cut, Refusal}
+use Rattle.bytes.specs.Helpers.{numberAt}
+use Rattle.bytes.specs.Number.{number}
+use Rattle.bytes.specs.PointerSize.{pointerBytes}
+use Rattle.bytes.specs.Reader.{Reader, Outcome, run}
+use Rattle.bytes.specs.Reader.Reader.{done, refuse, skip}
+use Rattle.bytes.specs.Reader.Outcome.{read, fault}
+use Rattle.bytes.proofs.Going.{number-passed, number-missing, number-cut, number-in}
+use Rattle.bytes.proofs.Onward.{number-on, number-stops, number-moves}
+use Rattle.bytes.proofs.Parts.{skip-room}
+use Rattle.bytes.proofs.Tests.{held, failed}
+use Rattle.header.specs.declared.FileFormat.{FileFormat}
+use Rattle.header.specs.declared.FileFormat.the-variants.{Legacy, New}
+use Rattle.header.specs.declared.Header.{Header}
+use Rattle.header.specs.Layout.{Field, Item, item, layoutOf, layout, widths, blockHeaderLength}
+use Rattle.header.specs.Layout.Field.{size, address, index, count}
+use Rattle.header.proofs.Lengths.{layout-length}
 use Rattle.blend.specs.declared.BlockHeader.{BlockHeader}
-use Rattle.blend.specs.Blocks.{Field, Item, layoutOf, layout, blockHeaderLength, tell, tested, fields, blockHeader}
-use Rattle.blend.specs.Blocks.Field.{size, address, index, count}
-use Rattle.blend.specs.Helpers.{otherWidth, otherOrder, made, four, memoryAddress}
+use Rattle.blend.specs.Blocks.{codeTold, tell, tested, fields, blockHeader}
+use Rattle.blend.specs.Helpers.{tellAll, headerAt, lastTwo, lastWidth, withAddress}
 
--- Lengths: the code's 4 bytes and the widths of the layout.
-abbrev pub widths : List Item → ℕ
-widths [] = 0
-widths (i ∷ is) = i .width + widths is
+-- All of the numbers are there: they are told, unless an address among them is 0.
+abbrev isNull : Field → ℕ → Bool
+isNull size n = false
+isNull address n = eqb n 0
+isNull index n = false
+isNull count n = false
 
-pub layout-length : (h : Header) → blockHeaderLength (h .format) (h .«pointer_size») ≡ 4 + widths (layout h)
-layout-length h = go (h .format) (h .«pointer_size»)
+abbrev nullIn : List Item → List ℕ → ℕ → Bool
+nullIn [] s at = false
+nullIn (i ∷ is) s at = isNull (i .field) (numberAt (i .order) (i .width) s at) || nullIn is s (at + i .width)
+
+abbrev unlessNull : Bool → BlockHeader → ℕ → Outcome BlockHeader
+unlessNull true b next = fault (Refusal 3)
+unlessNull false b next = read b next
+
+tested-there : (f : Field) (n : ℕ) (r : Reader BlockHeader) (s : List ℕ) (at : ℕ) (t : Bool) (b : BlockHeader) (next : ℕ) → run r s at ≡ unlessNull t b next
+    → run (tested f n r) s at ≡ unlessNull (isNull f n || t) b next
+unfolding run
+tested-there size n r s at t b next h = h
+tested-there index n r s at t b next h = h
+tested-there count n r s at t b next h = h
+tested-there address n r s at t b next h = go (eqb n 0)
   where
-    go : (f : FileFormat) (p : PointerSize) → blockHeaderLength f p ≡ 4 + widths (layoutOf f (pointerBytes p) (h .endianness))
-    go Legacy Bits32 = refl
-    go Legacy Bits64 = refl
-    go New Bits32 = refl
-    go New Bits64 = refl
+    go : (c : Bool) → run (elim c as (λ (d : Bool). Reader BlockHeader) [ true ↦ refuse 3 | false ↦ r ]) s at ≡ unlessNull (c || t) b next
+    go true = refl
+    go false = h
 
-pub pointer-le : (p : PointerSize) (n : ℕ) → n ≡ pointerBytes p → n ≤ 8
-pointer-le Bits32 n e = omega arith
-pointer-le Bits64 n e = omega arith
+fields-there : (is : List Item) (b : BlockHeader) (s : List ℕ) (at : ℕ) → at + widths is ≤ length s
+    → run (fields is b) s at ≡ unlessNull (nullIn is s at) (tellAll is s at b) (at + widths is)
+unfolding fields run
+fields-there [] b s at h = ap (read b) (omega arith)
+fields-there (i ∷ is) b s at h =
+    let n = numberAt (i .order) (i .width) s at in
+    let on : ℕ → Reader BlockHeader = λ m. tested (i .field) m (fields is (tell (i .field) m b)) in
+    let w = fields-there is (tell (i .field) n b) s (at + i .width) (omega arith) in
+    let e : at + i .width + widths is ≡ at + (i .width + widths is) = omega arith in
+    number-in (i .order) (i .width) on s at (omega arith)
+    ∙ tested-there (i .field) n (fields is (tell (i .field) n b)) s (at + i .width) (nullIn is s (at + i .width)) (tellAll is s (at + i .width) (tell (i .field) n b)) (at + i .width + widths is) w
+    ∙ ap (unlessNull (nullIn (i ∷ is) s at) (tellAll (i ∷ is) s at b)) e
 
-pub legacy-length : (f : FileFormat) (p : PointerSize) (n : ℕ) → f ≡ Legacy → n ≡ pointerBytes p → 16 + n ≡ blockHeaderLength f p
-legacy-length f p n e h = rw (e, h) (go p)
+-- in both layouts one address is tested
+null-address : (f : FileFormat) (p : ℕ) (e : Endianness) (s : List ℕ) (at : ℕ) (b : BlockHeader)
+    → nullIn (layoutOf f p e) s at ≡ eqb (tellAll (layoutOf f p e) s at b .address) 0
+null-address Legacy p e s at b = go (eqb (numberAt e p s (at + 4)) 0)
   where
-    go : (p : PointerSize) → 16 + pointerBytes p ≡ blockHeaderLength Legacy p
-    go Bits32 = refl
-    go Bits64 = refl
-
-pub new-length : (f : FileFormat) (p : PointerSize) (n : ℕ) → f ≡ New → n ≡ pointerBytes p → 24 + n ≡ blockHeaderLength f p
-new-length f p n e h = rw (e, h) (go p)
+    go : (t : Bool) → (t || false) ≡ t
+    go true = refl
+    go false = refl
+null-address New p e s at b = go (eqb (numberAt e p s (at + 4)) 0)
   where
-    go : (p : PointerSize) → 24 + pointerBytes p ≡ blockHeaderLength New p
-    go Bits32 = refl
-    go Bits64 = refl
-
--- an address, and then what goes by it
-module _ {A : Type 0} (h : Header) (k : ℕ → Reader A) (s : List ℕ) where
-  addressed : Reader A
-  addressed = number (h .endianness) (pointerBytes (h .«pointer_size»)) (λ n. tested address n (k n))
-
-  address-tested : (n at : ℕ) → run (tested address n (k n)) s at ≡ onwards (run (tested address n (done n)) s at) (λ m next. run (k m) s next)
-  unfolding run
-  address-tested n at = go (eqb n 0)
-    where
-      go : (t : Bool) → run (elim t as (λ (c : Bool). Reader A) [ true ↦ refuse 3 | false ↦ k n ]) s at
-          ≡ onwards (run (elim t as (λ (c : Bool). Reader ℕ) [ true ↦ refuse 3 | false ↦ done n ]) s at) (λ m next. run (k m) s next)
-      go true = refl
-      go false = refl
-
-  address-then : (at : ℕ) → run addressed s at ≡ onwards (run (memoryAddress h) s at) (λ m next. run (k m) s next)
-  unfolding addressed
-  address-then at = go (run (number (h .endianness) (pointerBytes (h .«pointer_size»)) done) s at) refl
-    where
-      go : (o : Outcome ℕ) → run (number (h .endianness) (pointerBytes (h .«pointer_size»)) done) s at ≡ o
-          → run addressed s at ≡ onwards (run (memoryAddress h) s at) (λ m next. run (k m) s next)
-      go (read n next) t =
-          number-on s at (h .endianness) (pointerBytes (h .«pointer_size»)) (λ m. tested address m (k m)) n next (sym t) ∙ address-tested n next
-          ∙ ap (λ (o : Outcome ℕ). onwards o (λ m next. run (k m) s next)) (sym (number-on s at (h .endianness) (pointerBytes (h .«pointer_size»)) (λ m. tested address m (done m)) n next (sym t)))
-      go (fault x) t =
-          number-stops s at (h .endianness) (pointerBytes (h .«pointer_size»)) (λ m. tested address m (k m)) x (sym t)
-          ∙ ap (λ (o : Outcome ℕ). onwards o (λ m next. run (k m) s next)) (sym (number-stops s at (h .endianness) (pointerBytes (h .«pointer_size»)) (λ m. tested address m (done m)) x (sym t)))
-
--- what the code's read of an address answers
-module _ (h : Header) (s : List ℕ) (at w : ℕ) (e : w ≡ pointerBytes (h .«pointer_size»)) where
-  same-number : run (number (h .endianness) w done) s at ≡ run (number (h .endianness) (pointerBytes (h .«pointer_size»)) done) s at
-  same-number = ap (λ (n : ℕ). run (number (h .endianness) n done) s at) e
-
-  pub address-stops : (x : Fault) → fault x ≡ run (number (h .endianness) w done) s at → fault x ≡ run (memoryAddress h) s at
-  address-stops x g = sym (number-stops s at (h .endianness) (pointerBytes (h .«pointer_size»)) (λ m. tested address m (done m)) x (g ∙ same-number))
-
-  module _ (n next : ℕ) (g : read n next ≡ run (number (h .endianness) w done) s at) where
-    on-address : run (memoryAddress h) s at ≡ run (tested address n (done n)) s next
-    on-address = number-on s at (h .endianness) (pointerBytes (h .«pointer_size»)) (λ m. tested address m (done m)) n next (g ∙ same-number)
-
-    pub address-null : n ≡ 0 → fault (Refusal 3) ≡ run (memoryAddress h) s at
-    unfolding run
-    address-null z = sym (on-address ∙ ap (λ (r : Reader ℕ). run r s next) (held (refuse 3) (done n) (eq-eqb _ _ z)))
-
-    pub address-read : (n ≡ 0 → ⊥) → read n next ≡ run (memoryAddress h) s at
-    unfolding run
-    address-read z = sym (on-address ∙ ap (λ (r : Reader ℕ). run r s next) (failed (refuse 3) (done n) (ne-eqb _ _ z)))
-
--- the four numbers after a code, read by read
-module _ (h : Header) (code w : ℕ) (e : Endianness) (s : List ℕ) (at : ℕ) where
-  last-one : ℕ → ℕ → ℕ → Reader BlockHeader
-  last-one a n b = number e w (λ c. done (made (h .format) code a n b c))
-
-  last-two : ℕ → ℕ → Reader BlockHeader
-  last-two a n = number e w (last-one a n)
-
-  after-first : ℕ → Reader BlockHeader
-  after-first a = number (h .endianness) (pointerBytes (h .«pointer_size»)) (λ n. tested address n (last-two a n))
-
-  pub four-stops : (x : Fault) → fault x ≡ run (number e 4 done) s at → fault x ≡ run (four h code w e) s at
-  unfolding last-two last-one after-first
-  four-stops x g = sym (number-stops s at e 4 after-first x g)
-
-  module _ (a one : ℕ) (g : read a one ≡ run (number e 4 done) s at) where
-    on-first : run (four h code w e) s at ≡ onwards (run (memoryAddress h) s one) (λ n next. run (last-two a n) s next)
-    unfolding last-two last-one after-first addressed
-    on-first = number-on s at e 4 after-first a one g ∙ address-then h (last-two a) s one
-
-    pub four-no-address : (x : Fault) → fault x ≡ run (memoryAddress h) s one → fault x ≡ run (four h code w e) s at
-    four-no-address x k = sym (on-first ∙ ap (λ (o : Outcome ℕ). onwards o (λ n next. run (last-two a n) s next)) (sym k))
-
-    module _ (n two : ℕ) (k : read n two ≡ run (memoryAddress h) s one) where
-      on-address-two : run (four h code w e) s at ≡ run (last-two a n) s two
-      on-address-two = on-first ∙ ap (λ (o : Outcome ℕ). onwards o (λ m next. run (last-two a m) s next)) (sym k)
-
-      pub four-no-second : (x : Fault) → fault x ≡ run (number e w done) s two → fault x ≡ run (four h code w e) s at
-      unfolding last-two
-      four-no-second x l = sym (on-address-two ∙ number-stops s two e w (last-one a n) x l)
-
-      module _ (b three : ℕ) (l : read b three ≡ run (number e w done) s two) where
-        pub four-no-third : (x : Fault) → fault x ≡ run (number e w done) s three → fault x ≡ run (four h code w e) s at
-        unfolding last-two last-one
-        four-no-third x m = sym (on-address-two ∙ number-on s two e w (last-one a n) b three l ∙ number-stops s three e w (λ c. done (made (h .format) code a n b c)) x m)
-
-        pub four-read : (c last : ℕ) → read c last ≡ run (number e w done) s three → (r : BlockHeader) → r ≡ made (h .format) code a n b c → read r last ≡ run (four h code w e) s at
-        unfolding last-two last-one run
-        four-read c last m r q =
-            ap (λ (d : BlockHeader). read d last) q
-            ∙ sym (on-address-two ∙ number-on s two e w (last-one a n) b three l ∙ number-on s three e w (λ c. done (made (h .format) code a n b c)) c last m)
-
--- the layout is those four numbers
-pub layout-four : (h : Header) (c : ℕ) → fields (layout h) (record { code = c; size = 0; address = 0; index = 0; count = 0 })
-    ≡ four h c (otherWidth (h .format)) (otherOrder (h .format) (h .endianness))
-unfolding fields
-layout-four h c = go (h .format)
-  where
-    go : (f : FileFormat) → fields (layoutOf f (pointerBytes (h .«pointer_size»)) (h .endianness)) (record { code = c; size = 0; address = 0; index = 0; count = 0 })
-        ≡ four (record { «pointer_size» = h .«pointer_size»; endianness = h .endianness; version = h .version; format = f }) c (otherWidth f) (otherOrder f (h .endianness))
-    go Legacy = refl
-    go New = refl
+    go : (t : Bool) → (t || false) ≡ t
+    go true = refl
+    go false = refl
 
 module _ (h : Header) (s : List ℕ) (at : ℕ) where
-  numbers : ℕ → Reader BlockHeader
-  numbers c = fields (layout h) (record { code = c; size = 0; address = 0; index = 0; count = 0 })
+  abbrev code : ℕ
+  code = numberAt Big 4 s at
 
-  pub block-header-stops : (x : Fault) → fault x ≡ run (number Big 4 done) s at → fault x ≡ run (blockHeader h) s at
-  unfolding blockHeader numbers
-  block-header-stops x g = sym (number-stops s at Big 4 numbers x g)
+  pub header-there : at + blockHeaderLength (h .format) (h .«pointer_size») ≤ length s
+      → withAddress (headerAt h s at) (at + blockHeaderLength (h .format) (h .«pointer_size»)) ≡ run (blockHeader h) s at
+  unfolding blockHeader
+  header-there fits =
+      let l = layout-length h in
+      let e : at + 4 + widths (layout h) ≡ at + blockHeaderLength (h .format) (h .«pointer_size») = omega (arith, l) in
+      sym (
+      number-in Big 4 (λ c. fields (layout h) (codeTold c)) s at (omega (arith, l)) ∙ fields-there (layout h) (codeTold code) s (at + 4) (omega (arith, l))
+      ∙ ap (unlessNull (nullIn (layout h) s (at + 4)) (headerAt h s at)) e
+      ∙ ap (λ (t : Bool). unlessNull t (headerAt h s at) (at + blockHeaderLength (h .format) (h .«pointer_size»))) (null-address (h .format) (pointerBytes (h .«pointer_size»)) (h .endianness) s (at + 4) (codeTold code))
+      ∙ unless (eqb (headerAt h s at .address) 0)
+      )
+    where
+      unless : (t : Bool) → unlessNull t (headerAt h s at) (at + blockHeaderLength (h .format) (h .«pointer_size»))
+          ≡ (elim t as (λ (c : Bool). Outcome BlockHeader) [ true ↦ fault (Refusal 3) | false ↦ read (headerAt h s at) (at + blockHeaderLength (h .format) (h .«pointer_size»)) ])
+      unless true = refl
+      unless false = refl
 
-  pub block-header-on : (c next : ℕ) → read c next ≡ run (number Big 4 done) s at → (w : ℕ) (o : Endianness) → w ≡ otherWidth (h .format) → o ≡ otherOrder (h .format) (h .endianness)
-      → run (four h c w o) s next ≡ run (blockHeader h) s at
-  unfolding blockHeader numbers
-  block-header-on c next g w o p q = rw (p, q) (sym (number-on s at Big 4 numbers c next g ∙ ap (λ (r : Reader BlockHeader). run r s next) (layout-four h c)))
+-- Not all of them are there: the first that is not, number by number.
+module _ (i : Item) (is : List Item) (b : BlockHeader) (s : List ℕ) (at : ℕ) where
+  item-missing : (x : Fault) → _≡_ {A = Outcome (Unit {0})} (fault x) (run (skip (i .width) (done tt)) s at) → run (fields (i ∷ is) b) s at ≡ fault x
+  unfolding fields
+  item-missing x g = number-missing (i .order) (i .width) (λ n. tested (i .field) n (fields is (tell (i .field) n b))) s at x g
+
+  item-cut : length s < at + i .width → run (fields (i ∷ is) b) s at ≡ fault (Cut at)
+  unfolding fields
+  item-cut k = number-cut (i .order) (i .width) (λ n. tested (i .field) n (fields is (tell (i .field) n b))) s at k
+
+  item-passed : (next : ℕ) → _≡_ {A = Outcome (Unit {0})} (read tt next) (run (skip (i .width) (done tt)) s at)
+      → run (fields (i ∷ is) b) s at ≡ run (tested (i .field) (numberAt (i .order) (i .width) s at) (fields is (tell (i .field) (numberAt (i .order) (i .width) s at) b))) s next
+  unfolding fields
+  item-passed next g = number-passed (i .order) (i .width) (λ n. tested (i .field) n (fields is (tell (i .field) n b))) s at next g
+
+module _ (f : FileFormat) (p : ℕ) (e : Endianness) (b : BlockHeader) (s : List ℕ) (at : ℕ) where
+  first-missing : (x : Fault) → _≡_ {A = Outcome (Unit {0})} (fault x) (run (skip 4 (done tt)) s at) → run (fields (layoutOf f p e) b) s at ≡ fault x
+  first-missing x g = go f
+    where
+      go : (f : FileFormat) → run (fields (layoutOf f p e) b) s at ≡ fault x
+      go Legacy = item-missing (item size 4 e) (drop 1 (layoutOf Legacy p e)) b s at x g
+      go New = item-missing (item index 4 Little) (drop 1 (layoutOf New p e)) b s at x g
+
+  first-passed : (next : ℕ) → _≡_ {A = Outcome (Unit {0})} (read tt next) (run (skip 4 (done tt)) s at)
+      → (d : BlockHeader) × (run (fields (layoutOf f p e) b) s at ≡ run (fields (item address p e ∷ lastTwo f p e) d) s next)
+  first-passed next g = go f
+    where
+      go : (f : FileFormat) → (d : BlockHeader) × (run (fields (layoutOf f p e) b) s at ≡ run (fields (item address p e ∷ lastTwo f p e) d) s next)
+      go Legacy = (tell size (numberAt e 4 s at) b, item-passed (item size 4 e) (drop 1 (layoutOf Legacy p e)) b s at next g)
+      go New = (tell index (numberAt Little 4 s at) b, item-passed (item index 4 Little) (drop 1 (layoutOf New p e)) b s at next g)
+
+  -- the last two
+  module _ (w : ℕ) (l : w ≡ lastWidth f) where
+    pub last-missing : (x : Fault) → _≡_ {A = Outcome (Unit {0})} (fault x) (run (skip w (done tt)) s at) → fault x ≡ run (fields (lastTwo f p e) b) s at
+    last-missing x g = sym (go f l)
+      where
+        go : (f : FileFormat) → w ≡ lastWidth f → run (fields (lastTwo f p e) b) s at ≡ fault x
+        go Legacy l = item-missing (item index 4 e) (drop 3 (layoutOf Legacy p e)) b s at x (rw l at g)
+        go New l = item-missing (item size 8 Little) (drop 3 (layoutOf New p e)) b s at x (rw l at g)
+
+    pub last-passed : (next : ℕ) → _≡_ {A = Outcome (Unit {0})} (read tt next) (run (skip w (done tt)) s at) → length s < at + (lastWidth f + lastWidth f)
+        → fault (Cut next) ≡ run (fields (lastTwo f p e) b) s at
+    unfolding fields
+    last-passed next g short = sym (go f l short)
+      where
+        go : (f : FileFormat) → w ≡ lastWidth f → length s < at + (lastWidth f + lastWidth f) → run (fields (lastTwo f p e) b) s at ≡ fault (Cut next)
+        go Legacy l k =
+            let q = skip-room w s at next g in
+            item-passed (item index 4 e) (drop 3 (layoutOf Legacy p e)) b s at next (rw l at g)
+            ∙ item-cut (item count 4 e) [] (tell index (numberAt e 4 s at) b) s next (omega (arith, q .0, l))
+        go New l k =
+            let q = skip-room w s at next g in
+            item-passed (item size 8 Little) (drop 3 (layoutOf New p e)) b s at next (rw l at g)
+            ∙ item-cut (item count 8 Little) [] (tell size (numberAt Little 8 s at) b) s next (omega (arith, q .0, l))
+
+-- a block header, number by number
+module _ (h : Header) (s : List ℕ) (at : ℕ) where
+  abbrev f : FileFormat
+  f = h .format
+
+  abbrev p : ℕ
+  p = pointerBytes (h .«pointer_size»)
+
+  abbrev e : Endianness
+  e = h .endianness
+
+  pub code-missing : (x : Fault) → _≡_ {A = Outcome (Unit {0})} (fault x) (run (skip 4 (done tt)) s at) → fault x ≡ run (blockHeader h) s at
+  unfolding blockHeader
+  code-missing x g = sym (number-missing Big 4 (λ c. fields (layout h) (codeTold c)) s at x g)
+
+  pub code-cut : length s < at + 4 → fault (Cut at) ≡ run (blockHeader h) s at
+  unfolding blockHeader
+  code-cut k = sym (number-cut Big 4 (λ c. fields (layout h) (codeTold c)) s at k)
+
+  module _ (one : ℕ) (g : _≡_ {A = Outcome (Unit {0})} (read tt one) (run (skip 4 (done tt)) s at)) where
+    on-code : run (blockHeader h) s at ≡ run (fields (layout h) (codeTold (numberAt Big 4 s at))) s one
+    unfolding blockHeader
+    on-code = number-passed Big 4 (λ c. fields (layout h) (codeTold c)) s at one g
+
+    pub first-number-missing : (x : Fault) → _≡_ {A = Outcome (Unit {0})} (fault x) (run (skip 4 (done tt)) s one) → fault x ≡ run (blockHeader h) s at
+    first-number-missing x k = sym (on-code ∙ first-missing f p e (codeTold (numberAt Big 4 s at)) s one x k)
+
+    module _ (two : ℕ) (k : _≡_ {A = Outcome (Unit {0})} (read tt two) (run (skip 4 (done tt)) s one)) where
+      after-first : (d : BlockHeader) × (run (fields (layoutOf f p e) (codeTold (numberAt Big 4 s at))) s one ≡ run (fields (item address p e ∷ lastTwo f p e) d) s two)
+      after-first = first-passed f p e (codeTold (numberAt Big 4 s at)) s one two k
+
+      on-address : ℕ → Reader BlockHeader
+      on-address n = tested address n (fields (lastTwo f p e) (tell address n (after-first .0)))
+
+      module _ (w : ℕ) (q : w ≡ p) where
+        on-first : run (blockHeader h) s at ≡ run (number e w on-address) s two
+        unfolding on-address fields
+        on-first = on-code ∙ after-first .1 ∙ ap (λ (m : ℕ). run (number e m on-address) s two) (sym q)
+
+        pub address-missing : (x : Fault) → fault x ≡ run (number e w done) s two → fault x ≡ run (blockHeader h) s at
+        address-missing x l = sym (on-first ∙ number-stops s two e w on-address x l)
+
+        module _ (n three : ℕ) (l : read n three ≡ run (number e w done) s two) where
+          pub address-null : n ≡ 0 → fault (Refusal 3) ≡ run (blockHeader h) s at
+          unfolding on-address run
+          address-null z = sym (on-first ∙ number-on s two e w on-address n three l ∙ ap (λ (r : Reader BlockHeader). run r s three) (held _ _ (eq-eqb _ _ z)))
+
+          pub last-short : length s < at + blockHeaderLength f (h .«pointer_size») → length s < three + (lastWidth f + lastWidth f)
+          last-short m =
+              let a = skip-room 4 s at one g in
+              let b = skip-room 4 s one two k in
+              let c = number-moves e s w two n three (sym l) in
+              omega (arith, m, a .0, b .0, c, q, parts f)
+            where
+              parts : (f : FileFormat) → blockHeaderLength f (h .«pointer_size») ≡ 8 + p + (lastWidth f + lastWidth f)
+              parts Legacy = omega arith
+              parts New = omega arith
+
+          pub rest-missing : (n ≡ 0 → ⊥) → (x : Fault) → ((p : ℕ) (e : Endianness) (b : BlockHeader) → fault x ≡ run (fields (lastTwo f p e) b) s three) → fault x ≡ run (blockHeader h) s at
+          unfolding on-address
+          rest-missing z x m =
+              m p e (tell address n (after-first .0))
+              ∙ sym (on-first ∙ number-on s two e w on-address n three l ∙ ap (λ (r : Reader BlockHeader). run r s three) (failed _ _ (ne-eqb _ _ z)))
 
 -- how far a block header goes
 pub tested-reads : {A : Type 0} (f : Field) (n : ℕ) (r : Reader A) (s : List ℕ) (at : ℕ) (a : A) (next : ℕ) → run (tested f n r) s at ≡ read a next → run r s at ≡ read a next
@@ -207,13 +260,13 @@ fields-move (i ∷ is) b s at r next h = go (run (number (i .order) (i .width) d
 
 pub block-header-moves : (h : Header) (s : List ℕ) (at : ℕ) (b : BlockHeader) (next : ℕ) → run (blockHeader h) s at ≡ read b next
     → next ≡ at + blockHeaderLength (h .format) (h .«pointer_size»)
-unfolding blockHeader numbers
+unfolding blockHeader
 block-header-moves h s at b next g = go (run (number Big 4 done) s at) refl
   where
     go : (o : Outcome ℕ) → run (number Big 4 done) s at ≡ o → next ≡ at + blockHeaderLength (h .format) (h .«pointer_size»)
     go (read c mid) t =
-        let k = sym (number-on s at Big 4 (numbers h s at) c mid (sym t)) ∙ g in
+        let k = sym (number-on s at Big 4 (λ c. fields (layout h) (codeTold c)) c mid (sym t)) ∙ g in
         omega (arith, fields-move (layout h) _ s mid b next k, number-moves Big s 4 at c mid t, layout-length h)
     go (fault x) t =
-        let k : fault x ≡ read b next = sym (number-stops s at Big 4 (numbers h s at) x (sym t)) ∙ g in
+        let k : fault x ≡ read b next = sym (number-stops s at Big 4 (λ c. fields (layout h) (codeTold c)) x (sym t)) ∙ g in
         cc

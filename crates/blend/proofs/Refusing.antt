@@ -1,61 +1,33 @@
 -- Why a file is not read is a cut, a wrong mark, or a refusal whose number is not 0: so a number 0 can tell that it was read.
 use Prim.Native.Nat.{ℕ, zero, suc, _+_}
 use mathlib.Core.Bool.{Bool, true, false}
-use mathlib.Core.List.{List, [], _∷_, _++_}
-use mathlib.Core.Path.{_≡_, refl, sym, _∙_, ap}
+use mathlib.Core.List.{List, [], _∷_}
+use mathlib.Core.Path.{_≡_, refl, _∙_, ap}
 use native.Mathlib.Omega.{arith}
 use lib.Dec.{eqb}
 use lib.ListN.{length}
-use Rattle.primitive.specs.declared.Fault.{Fault}
-use Rattle.primitive.specs.declared.Fault.the-variants.{Cut, Mark, Refusal}
-use Rattle.primitive.specs.declared.Endianness.{Endianness}
-use Rattle.primitive.specs.declared.Endianness.the-variants.{Little, Big}
-use Rattle.primitive.specs.declared.PointerSize.{PointerSize}
-use Rattle.primitive.specs.declared.PointerSize.the-variants.{Bits32, Bits64}
-use Rattle.primitive.specs.Ascii.{ascii}
-use Rattle.primitive.specs.Number.{spelled}
-use Rattle.primitive.specs.Reader.{Reader, Outcome, run, then, stands}
-use Rattle.primitive.specs.Reader.Reader.{done, refuse, bytes, skip}
-use Rattle.primitive.specs.Reader.Outcome.{read, fault}
-use Rattle.primitive.proofs.Refusing.{Gives, given, gives-then, gives-tag}
-use Rattle.dna.specs.declared.dna.DnaCounts.{DnaCounts}
+use Rattle.bytes.specs.declared.Fault.{Fault}
+use Rattle.bytes.specs.declared.Fault.the-variants.{Cut, Mark, Refusal}
+use Rattle.bytes.specs.Ascii.{ascii}
+use Rattle.bytes.specs.Number.{spelled}
+use Rattle.bytes.specs.Reader.{Reader, Outcome, run, then, stands}
+use Rattle.bytes.specs.Reader.Reader.{done, refuse, skip}
+use Rattle.bytes.specs.Reader.Outcome.{read, fault}
+use Rattle.bytes.proofs.Refusing.{Gives, given, gives-then}
 use Rattle.dna.specs.Catalogue.{Dna, catalogue}
 use Rattle.dna.proofs.Refusing.{catalogue-gives}
-use Rattle.blend.specs.declared.FileFormat.the-variants.{Legacy, New}
-use Rattle.blend.specs.declared.Header.{Header}
+use Rattle.header.proofs.Refusing.{Counts, Told, stop-told, header-gives}
+use Rattle.header.specs.declared.Header.{Header}
 use Rattle.blend.specs.declared.BlockHeader.{BlockHeader}
 use Rattle.blend.specs.declared.Kind.{Kind}
 use Rattle.blend.specs.declared.Row.{Row}
 use Rattle.blend.specs.declared.blend.Last.{Last}
 use Rattle.blend.specs.declared.blend.Boundary.{Boundary}
-use Rattle.blend.specs.Blocks.{Field, Item, layout, tested, fields, blockHeader, kindOf, taken, block, rowed, rowAt, payloadOf, within, catalogued, isDna, finished, onRow, boundaryOf}
-use Rattle.blend.specs.Blocks.Field.{size, address, index, count}
-use Rattle.blend.specs.Chain.{ended, link, chain, chainFrom, onHeader, fileBy, File}
-use Rattle.blend.specs.Header.{HeaderBytes, pointerMark, orderMark, legacy, new, headerBytes, valued}
-
-abbrev pub Counts : ℕ → Type 0
-Counts n = n ≡ 0 → ⊥
-
--- the header's tree, and a block's
-pointer-gives : {B : Type 0} (k : PointerSize → Reader B) → ((p : PointerSize) → Gives Counts (k p)) → Gives Counts (pointerMark k)
-pointer-gives k g = (g Bits32, gives-tag Counts (ascii "-") (k Bits64) (g Bits64))
-
-order-gives : {B : Type 0} (k : Endianness → Reader B) → ((e : Endianness) → Gives Counts (k e)) → Gives Counts (orderMark k)
-order-gives k g = (g Little, gives-tag Counts (ascii "V") (k Big) (g Big))
-
-legacy-gives : (p : PointerSize) → Gives Counts (legacy p)
-unfolding legacy
-legacy-gives p = order-gives (λ e. bytes 3 (λ v. done (record { format = Legacy; pointer = p; order = e; unchecked = []; version = v }))) (λ e v. tt)
-
-new-gives : Gives Counts new
-unfolding new
-new-gives =
-    let last : List ℕ → PointerSize → List ℕ → Endianness → Reader HeaderBytes = λ a p b e. bytes 4 (λ v. done (record { format = New; pointer = p; order = e; unchecked = a ++ b; version = v })) in
-    λ a. pointer-gives (λ p. bytes 2 (λ b. orderMark (last a p b))) (λ p b. order-gives (last a p b) (λ e v. tt))
-
-header-gives : Gives Counts headerBytes
-unfolding headerBytes
-header-gives = ((legacy-gives Bits32, (legacy-gives Bits64, new-gives)), λ e. omega arith)
+use Rattle.header.specs.Layout.{Field, Item, layout}
+use Rattle.blend.specs.Blocks.{tested, fields, blockHeader, kindOf, taken, block, rowed, rowAt, payloadOf, catalogued, isDna, finished, onRow, boundaryOf}
+use Rattle.header.specs.Layout.Field.{size, address, index, count}
+use Rattle.blend.specs.Chain.{ended, link, chain, chainFrom, onHeader, fileBy}
+use Rattle.header.specs.Header.{HeaderBytes, headerBytes, valued}
 
 tested-gives : {A : Type 0} (f : Field) (n : ℕ) (r : Reader A) → Gives Counts r → Gives Counts (tested f n r)
 tested-gives size n r w = w
@@ -92,12 +64,6 @@ block-gives h =
     (λ b. gives-then Counts (taken (kindOf (b .code)) (b .count)) (λ u. done b) (taken-gives (kindOf (b .code)) (b .count)) (λ u. tt))
 
 -- what stops at a boundary, a chain and a file
-abbrev pub Told : Fault → Type 0
-Told x = x ≡ Refusal 0 → ⊥
-
-told : {A : Type 0} (o : Outcome A) → ((n : ℕ) → o ≡ fault (Refusal n) → Counts n) → (x : Fault) → o ≡ fault x → Told x
-told o f x e z = f 0 (e ∙ ap fault z) refl
-
 module _ (h : Header) (s : List ℕ) where
   row-told : (at : ℕ) (x : Fault) → rowAt h s at ≡ fault x → Told x
   unfolding rowAt
@@ -109,7 +75,7 @@ module _ (h : Header) (s : List ℕ) where
           absurd (omega arith)
       go (fault y) t g =
           let k : y ≡ x = cc in
-          told (run (block h) s at) (given Counts (block h) (block-gives h) s at) x (t ∙ ap fault k)
+          stop-told (run (block h) s at) (given Counts (block h) (block-gives h) s at) x (t ∙ ap fault k)
 
   finished-told : (r : Row) (next : ℕ) (x : Fault) → finished h s r next ≡ Boundary.Stopped x → Told x
   unfolding finished
@@ -185,7 +151,7 @@ header-told s x e = go (run headerBytes s 0) refl e
         absurd (omega arith)
     go (fault y) t g =
         let k : y ≡ x = cc in
-        told (run headerBytes s 0) (given Counts headerBytes header-gives s 0) x (t ∙ ap fault k)
+        stop-told (run headerBytes s 0) (given Counts headerBytes header-gives s 0) x (t ∙ ap fault k)
 
 pub file-told : (h : Header) (s : List ℕ) (at : ℕ) (x : Fault) → chainFrom h s at .last ≡ fault x → Told x
 unfolding chainFrom

@@ -1,59 +1,37 @@
 -- Laws of a block and its row: how the tree of a block goes on, where a row's payload lies, and what is at a boundary.
-use Prim.Native.Nat.{ℕ, _+_, _-_, _≤_}
+use Prim.Native.Nat.{ℕ, _+_, _≤_}
 use mathlib.Core.Bool.{Bool, true, false}
 use mathlib.Core.List.{List}
 use mathlib.Core.Path.{_≡_, refl, sym, _∙_, ap}
 use native.Mathlib.Omega.{arith}
-use borrow.Author.Tests.{leb-true}
 use lib.Dec.{eqb}
-use lib.ListN.{length, take, drop, length-take, length-drop}
-use Rattle.primitive.specs.declared.Fault.{Fault}
-use Rattle.primitive.specs.declared.Fault.the-variants.{Cut, Refusal}
-use Rattle.primitive.specs.Ascii.{ascii}
-use Rattle.primitive.specs.Helpers.{Placed}
-use Rattle.primitive.specs.Reader.{Reader, Outcome, run, then, room, stands}
-use Rattle.primitive.specs.Reader.Reader.{done, refuse, skip}
-use Rattle.primitive.specs.Reader.Outcome.{read, fault}
-use Rattle.primitive.proofs.Extent.{stops-within}
-use Rattle.primitive.proofs.Onward.{skip-on, skip-stops}
-use Rattle.primitive.proofs.Tests.{held, failed}
-use Rattle.primitive.proofs.Times.{goes-on, stops}
+use lib.ListN.{length}
+use Rattle.bytes.specs.declared.Fault.{Fault}
+use Rattle.bytes.specs.declared.Fault.the-variants.{Refusal}
+use Rattle.bytes.specs.Ascii.{ascii}
+use Rattle.bytes.specs.Helpers.{Placed}
+use Rattle.bytes.specs.Reader.{Reader, Outcome, run, then, stands}
+use Rattle.bytes.specs.Reader.Reader.{done, refuse, skip}
+use Rattle.bytes.specs.Reader.Outcome.{read, fault}
+use Rattle.bytes.proofs.Extent.{stops-within}
+use Rattle.bytes.proofs.Onward.{skip-on, skip-stops}
+use Rattle.bytes.proofs.Tests.{held, failed}
+use Rattle.bytes.proofs.Times.{goes-on, stops}
 use Rattle.dna.specs.declared.dna.DnaCounts.{DnaCounts}
 use Rattle.dna.specs.declared.dna.DnaCounted.{DnaCounted}
 use Rattle.dna.specs.Catalogue.{Dna, catalogue, counts, countsOnly, outcomeOf}
-use Rattle.blend.specs.declared.Header.{Header}
+use Rattle.header.specs.declared.Header.{Header}
 use Rattle.blend.specs.declared.BlockHeader.{BlockHeader}
 use Rattle.blend.specs.declared.Row.{Row}
 use Rattle.blend.specs.declared.Kind.{Kind}
 use Rattle.blend.specs.declared.blend.Last.{Last}
 use Rattle.blend.specs.declared.blend.Boundary.{Boundary}
 use Rattle.blend.specs.declared.blend.Taking.{Taking}
-use Rattle.blend.specs.Blocks.{blockHeaderLength, blockHeader, kindOf, taken, block, rowOf, rowed, rowAt, payloadOf, within, catalogued, isDna, finished, onRow, boundaryOf}
+use Rattle.header.specs.Layout.{blockHeaderLength}
+use Rattle.blend.specs.Blocks.{blockHeader, kindOf, taken, block, rowOf, rowed, rowAt, payloadOf, within, catalogued, isDna, finished, onRow, boundaryOf}
 use Rattle.blend.specs.Helpers.{taking}
+use Rattle.bytes.proofs.Parts.{skip-room}
 use Rattle.blend.proofs.Layouts.{block-header-moves}
-
--- bytes that were skipped were there
-pub skip-room : (n : ℕ) (s : List ℕ) (at next : ℕ) → _≡_ {A = Outcome (Unit {0})} (read tt next) (run (skip n (done tt)) s at) → (next ≡ at + n) × (at + n ≤ length s)
-unfolding run
-skip-room n s at next h = go (room s at n) refl h
-  where
-    go : (t : Bool) → room s at n ≡ t → _≡_ {A = Outcome (Unit {0})} (read tt next) (elim t as (λ (c : Bool). Outcome (Unit {0})) [ true ↦ read tt (at + n) | false ↦ fault (Cut at) ])
-        → (next ≡ at + n) × (at + n ≤ length s)
-    go true e g = (cc, leb-true _ _ e)
-    go false e g =
-        let z : _≡_ {A = ℕ} 0 1 = cc in
-        absurd (omega arith)
-
--- a part with a start and an end
-module _ (s : List ℕ) (at n : ℕ) where
-  less : at + n - at ≡ n
-  less = omega arith
-
-  pub part-same : take (at + n - at) (drop at s) ≡ take n (drop at s)
-  part-same = ap (λ (k : ℕ). take k (drop at s)) less
-
-  pub part-long : at + n ≤ length s → length (take (at + n - at) (drop at s)) ≡ n
-  part-long h = ap length part-same ∙ length-take n (drop at s) ∙ omega (arith, length-drop at s)
 
 -- a block, read by read
 module _ (h : Header) (s : List ℕ) (at : ℕ) where

@@ -1,64 +1,32 @@
--- Blocks: the layout of a block header, what is read at a boundary, and a block's row.
+-- Blocks: what is read at a boundary, a block header by its layout, and a block's row.
 use Prim.Native.Nat.{ℕ, _+_, _%_, _^_}
 use Prim.Native.String.{String}
 use mathlib.Core.Bool.{Bool, true, false, _&&_}
 use mathlib.Core.List.{List, [], _∷_}
 use lib.Dec.{ltb, eqb}
 use lib.ListN.{take, drop}
-use Rattle.primitive.specs.declared.Endianness.{Endianness}
-use Rattle.primitive.specs.declared.Endianness.the-variants.{Little, Big}
-use Rattle.primitive.specs.declared.Fault.{Fault}
-use Rattle.primitive.specs.declared.PointerSize.{PointerSize}
-use Rattle.primitive.specs.declared.PointerSize.the-variants.{Bits32, Bits64}
-use Rattle.primitive.specs.declared.Fault.the-variants.{Cut, Mark, Refusal}
-use Rattle.primitive.specs.Ascii.{ascii}
-use Rattle.primitive.specs.Number.{spelled, number}
-use Rattle.primitive.specs.Paper.{Paper}
-use Rattle.primitive.specs.Paper.Paper.{accepts}
-use Rattle.primitive.specs.PointerSize.{pointerBytes}
-use Rattle.primitive.specs.Reader.{Reader, Outcome, run, then, stands}
-use Rattle.primitive.specs.Reader.Reader.{done, refuse, skip}
-use Rattle.primitive.specs.Reader.Outcome.{read, fault}
-use Rattle.primitive.specs.Refusals.{invalidMemoryAddress, unsupportedCountOnPrincipalBlock, unknownBlockCode}
+use Rattle.bytes.specs.declared.Endianness.the-variants.{Big}
+use Rattle.bytes.specs.declared.Fault.{Fault}
+use Rattle.bytes.specs.declared.Fault.the-variants.{Cut, Mark, Refusal}
+use Rattle.bytes.specs.Ascii.{ascii}
+use Rattle.bytes.specs.Number.{spelled, number}
+use Rattle.bytes.specs.Paper.{Paper}
+use Rattle.bytes.specs.Paper.Paper.{accepts}
+use Rattle.bytes.specs.Reader.{Reader, Outcome, run, then, stands}
+use Rattle.bytes.specs.Reader.Reader.{done, refuse, skip}
+use Rattle.bytes.specs.Reader.Outcome.{read, fault}
+use Rattle.bytes.specs.Refusals.{invalidMemoryAddress, unsupportedCountOnPrincipalBlock, unknownBlockCode}
 use Rattle.dna.specs.Catalogue.{Dna, catalogue, counts}
-use Rattle.blend.specs.declared.FileFormat.{FileFormat}
-use Rattle.blend.specs.declared.FileFormat.the-variants.{Legacy, New}
-use Rattle.blend.specs.declared.Header.{Header}
+use Rattle.header.specs.declared.Header.{Header}
+use Rattle.header.specs.Layout.{Field, Item, layout, blockHeaderLength}
+use Rattle.header.specs.Layout.Field.{size, address, index, count}
 use Rattle.blend.specs.declared.BlockHeader.{BlockHeader}
 use Rattle.blend.specs.declared.Row.{Row}
 use Rattle.blend.specs.declared.Kind.{Kind}
+use Rattle.blend.specs.declared.Takes.{Takes}
+use Rattle.blend.specs.declared.About.{About}
 use Rattle.blend.specs.declared.blend.Last.{Last}
 use Rattle.blend.specs.declared.blend.Boundary.{Boundary}
-
--- Layout: after the code of 4 bytes, these numbers in order, each with its width and its byte order.
-pub data Field : Type 0 where
-  size : Field
-  address : Field
-  index : Field
-  count : Field
-
-pub record Item : Type 0 where
-  pub field : Field
-  pub width : ℕ
-  pub order : Endianness
-
-abbrev pub item : Field → ℕ → Endianness → Item
-item f w e = record { field = f; width = w; order = e }
-
--- by edition, pointer bytes and the file's order
-abbrev pub layoutOf : FileFormat → ℕ → Endianness → List Item
-layoutOf Legacy p e = item size 4 e ∷ item address p e ∷ item index 4 e ∷ item count 4 e ∷ []
-layoutOf New p e = item index 4 Little ∷ item address p e ∷ item size 8 Little ∷ item count 8 Little ∷ []
-
-abbrev pub layout : Header → List Item
-layout h = layoutOf (h .format) (pointerBytes (h .«pointer_size»)) (h .endianness)
-
--- block headers are 20, 24, 28 or 32 bytes by edition and pointer size: as long as their layout (proofs/Layouts.antt)
-abbrev pub blockHeaderLength : FileFormat → PointerSize → ℕ
-blockHeaderLength Legacy Bits32 = 20
-blockHeaderLength Legacy Bits64 = 24
-blockHeaderLength New Bits32 = 28
-blockHeaderLength New Bits64 = 32
 
 -- a block header with one number told
 abbrev pub tell : Field → ℕ → BlockHeader → BlockHeader
@@ -79,10 +47,14 @@ unfoldable pub fields : List Item → BlockHeader → Reader BlockHeader
 fields [] b = done b
 fields (i ∷ is) b = number (i .order) (i .width) (λ n. tested (i .field) n (fields is (tell (i .field) n b)))
 
+-- a block header with its code told, and nothing else yet
+abbrev pub codeTold : ℕ → BlockHeader
+codeTold c = record { code = c; size = 0; address = 0; index = 0; count = 0 }
+
 -- a block header: its code, first byte most significant, and the numbers of its layout
 unfoldable pub blockHeader : Header → Reader BlockHeader
 unfolding fields
-blockHeader h = number Big 4 (λ c. fields (layout h) (record { code = c; size = 0; address = 0; index = 0; count = 0 }))
+blockHeader h = number Big 4 (λ c. fields (layout h) (codeTold c))
 
 -- Kinds follow from the code's number alone. Any two bytes then two zeros: Principal.
 abbrev pub codeNumber : String → ℕ
@@ -120,22 +92,32 @@ paperKind Kind.Principal = accepts 4 []
 paperKind Kind.Dna = accepts 5 []
 paperKind Kind.Unknown = accepts 6 []
 
+-- What follows from a kind: how a block of it is taken, whether it is found by its address, whether it has a code, and whether it is a DNA1.
+abbrev pub about : Kind → About
+about Kind.Rend = record { takes = Takes.Always; found = false; coded = true; dna = false }
+about Kind.Test = record { takes = Takes.Always; found = false; coded = true; dna = false }
+about Kind.Global = record { takes = Takes.Always; found = false; coded = true; dna = false }
+about Kind.Subsidiary = record { takes = Takes.Always; found = true; coded = false; dna = false }
+about Kind.Principal = record { takes = Takes.Alone; found = true; coded = true; dna = false }
+about Kind.Dna = record { takes = Takes.Always; found = false; coded = true; dna = true }
+about Kind.Unknown = record { takes = Takes.Never; found = false; coded = false; dna = false }
+
 -- the code's test: of a Principal the count must be 1 (4); anything that is no block code is 5
+abbrev pub takenBy : Takes → ℕ → Reader (Unit {0})
+takenBy Takes.Always n = done tt
+takenBy Takes.Alone n = elim (eqb n 1) [ true ↦ done tt | false ↦ refuse unsupportedCountOnPrincipalBlock ]
+takenBy Takes.Never n = refuse unknownBlockCode
+
 abbrev pub taken : Kind → ℕ → Reader (Unit {0})
-taken Kind.Rend n = done tt
-taken Kind.Test n = done tt
-taken Kind.Global n = done tt
-taken Kind.Subsidiary n = done tt
-taken Kind.Dna n = done tt
-taken Kind.Principal n = elim (eqb n 1) [ true ↦ done tt | false ↦ refuse unsupportedCountOnPrincipalBlock ]
-taken Kind.Unknown n = refuse unknownBlockCode
+taken k n = takenBy (about k .takes) n
 
 -- Order of checks: the header, then a payload of `size` bytes, which is not looked at, then the code. A DNA1's catalogue comes after that, in `finished`.
 unfoldable pub block : Header → Reader BlockHeader
 unfolding then blockHeader
 block h = then (blockHeader h) (λ b. skip (b .size) (then (taken (kindOf (b .code)) (b .count)) (λ u. done b)))
 
--- A row: the block at a boundary with its offsets.
+-- A row: the block at a boundary with its offsets. The payload starts where the tree of the block header ends, and the next boundary is where it ends
+-- (proofs/Layouts.antt, `block-header-moves`; proofs/Rows.antt, `Lies`).
 abbrev pub rowOf : Header → ℕ → BlockHeader → Row
 rowOf h at b =
     record { code = b .code; address = b .address; index = b .index; count = b .count; at = at; payload = at + blockHeaderLength (h .format) (h .«pointer_size»); len = b .size }
@@ -163,13 +145,7 @@ catalogued r next (read d end) = Boundary.Block r (Last.Dna (counts d)) next
 catalogued r next (fault f) = Boundary.Stopped (within (r .payload) f)
 
 abbrev pub isDna : Kind → Bool
-isDna Kind.Rend = false
-isDna Kind.Test = false
-isDna Kind.Global = false
-isDna Kind.Subsidiary = false
-isDna Kind.Dna = true
-isDna Kind.Principal = false
-isDna Kind.Unknown = false
+isDna k = about k .dna
 
 unfoldable pub finished : Header → List ℕ → Row → ℕ → Boundary
 finished h s r next =

@@ -4,21 +4,22 @@ use mathlib.Core.Bool.{true, false}
 use mathlib.Core.List.{List, [], _∷_, _++_}
 use lib.Dec.{ltb}
 use lib.ListN.{length}
-use Rattle.primitive.specs.declared.Fault.the-variants.{Cut, Refusal}
-use Rattle.primitive.specs.Paper.{Paper}
-use Rattle.primitive.specs.Paper.Paper.{accepts, refuses}
-use Rattle.primitive.specs.Reader.{Reader, Outcome, run}
-use Rattle.primitive.specs.Reader.Outcome.{read, fault}
-use Rattle.primitive.specs.Refusals.{noDnaBlockFound, blockTableTooShort, paperFault}
-use Rattle.primitive.specs.Tables.{written}
+use Rattle.bytes.specs.declared.Fault.the-variants.{Cut, Refusal}
+use Rattle.bytes.specs.Paper.{Paper}
+use Rattle.bytes.specs.Paper.Paper.{accepts, refuses}
+use Rattle.bytes.specs.Reader.{Reader, Outcome, run}
+use Rattle.bytes.specs.Reader.Outcome.{read, fault}
+use Rattle.bytes.specs.Refusals.{noDnaBlockFound, blockTableTooShort, paperFault}
+use Rattle.bytes.specs.Tables.{written}
 use Rattle.dna.specs.declared.dna.DnaCounts.{DnaCounts}
-use Rattle.blend.specs.declared.Header.{Header}
+use Rattle.header.specs.declared.Header.{Header}
 use Rattle.blend.specs.declared.Row.{Row}
 use Rattle.blend.specs.declared.blend.Last.{Last}
 use Rattle.blend.specs.declared.blend.Boundary.{Boundary}
 use Rattle.blend.specs.declared.blend.BlendAnswer.{BlendAnswer}
-use Rattle.blend.specs.Header.{HeaderBytes, valued, headerNumbers}
+use Rattle.header.specs.Header.{HeaderBytes, valued, headerNumbers}
 use Rattle.blend.specs.Blocks.{boundaryOf}
+use Rattle.blend.specs.Rows.{perRow, rowTable}
 
 -- The rows up to the end mark or to the earliest fault; and the counts of the last DNA1 with the offset after the end mark, or the fault, 6 included.
 pub record Chain : Type 0 where
@@ -58,17 +59,6 @@ onHeader s (fault f) = fault f
 
 abbrev pub fileBy : Reader HeaderBytes → List ℕ → Outcome File
 fileBy header s = onHeader s (valued (run header s 0))
-
--- Seven numbers a row.
-abbrev pub perRow : ℕ
-perRow = 7
-
-abbrev pub rowNumbers : Row → List ℕ
-rowNumbers r = r .code ∷ r .address ∷ r .index ∷ r .count ∷ r .at ∷ r .payload ∷ r .len ∷ []
-
-unfoldable pub rowTable : List Row → List ℕ
-rowTable [] = []
-rowTable (r ∷ rs) = rowNumbers r ++ rowTable rs
 
 -- What the reader answers, with a table of `room` rows: header, number of rows, offset after the end mark and the four counts of the last DNA1.
 -- 7 comes only when the file reads.

@@ -1,7 +1,7 @@
--- The rules of the file's layer.
-pub mod Header
+-- The rules of the chain.
 pub mod Blocks
+pub mod Rows
 pub mod Chain
-pub mod Walker
+pub mod Spelling
 pub mod Helpers
 pub mod Calls

@@ -1,220 +1,48 @@
-// Header, blocks and the chain of them: parsers/blend.rs of the Rust. Its nom parsers are reads at a place here, moved by value, and its vector of
-// blocks is a lent table of rows, seven numbers each.
+// Blocks and the chain of them: parsers/blend.rs of the Rust. Its nom parsers are reads at a place here, moved by value, and its vector of
+// blocks is a lent table of rows.
 use crate::BlockHeader;
-use crate::FileFormat;
-use crate::Header;
 use crate::Kind;
 use crate::Row;
-use crate::Version;
+use crate::Takes;
+use bytes::Endianness;
+use bytes::Fault;
+use bytes::PointerSize;
+use bytes::cursor::Cursor;
+use bytes::cursor::Moved;
+use bytes::cursor::Numbered;
+use bytes::cursor::Width;
+use bytes::cursor::stands_at;
 use dna::dna::DnaCounted;
 use dna::dna::DnaCounts;
 use dna::dna::dna_counts;
-use primitive::Endianness;
-use primitive::Fault;
-use primitive::PointerSize;
-use primitive::cursor::Cursor;
-use primitive::cursor::Moved;
-use primitive::cursor::Numbered;
-use primitive::cursor::Width;
-use primitive::cursor::stands_at;
+use header::FileFormat;
+use header::Header;
+use header::blend::HeaderAnswer;
+use header::blend::header;
+use header::blend::refusal_of;
 use primitive::primitive::ValueU32;
 use primitive::primitive::ValueU64;
 use primitive::primitive::parse_u32;
 use primitive::primitive::parse_u64;
 ghost use mathlib.Core.Path.{_≡_};
-ghost use mathlib.Core.List.{List, []};
 ghost use Prim.Native.Nat.{ℕ, _+_, _/_, _^_, _≤_, _<_};
 ghost use lib.ListN.{length};
-ghost use Rattle.primitive.specs.Reader.{run};
-ghost use Rattle.primitive.specs.Reader.Reader.{done, bytes};
-ghost use Rattle.primitive.specs.Cursor.{widthOf, numbered};
-ghost use Rattle.primitive.specs.Helpers.{numberAt, put, Placed};
-ghost use Rattle.primitive.specs.PointerSize.{pointerBytes};
-ghost use Rattle.primitive.specs.Refusals.{paperFault};
-ghost use Rattle.primitive.specs.Paper.Paper.{refuses};
-ghost use Rattle.blend.specs.Header as headers;
+ghost use Rattle.bytes.specs.declared.Endianness.{Endianness};
+ghost use Rattle.bytes.specs.Reader.{run};
+ghost use Rattle.bytes.specs.Reader.Outcome.{fault};
+ghost use Rattle.blend.specs.declared.BlockHeader.{BlockHeader};
+ghost use Rattle.bytes.specs.Cursor.{widthOf};
+ghost use Rattle.bytes.specs.Helpers.{numberAt, put, Placed};
+ghost use Rattle.bytes.specs.PointerSize.{pointerBytes};
 ghost use Rattle.blend.specs.Blocks as blocks;
 ghost use Rattle.blend.specs.Chain as chains;
-ghost use Rattle.primitive.specs.Tables.{written};
-ghost use Rattle.blend.specs.Helpers as helpers;
-ghost use Rattle.blend.specs.Helpers.{headerRead, newOrder, otherWidth, otherOrder, four, headerAt, withAddress, blockHeaderRead, taking, rowRead, memoryAddress, summed, summedAs, rowsFrom};
+ghost use Rattle.blend.specs.Rows.{perRow, rowNumbers, rowTable};
+ghost use Rattle.bytes.specs.Tables.{written};
+ghost use Rattle.blend.specs.Helpers.{headerAt, lastTwo, lastWidth, withAddress, blockHeaderRead, taking, rowRead, summed, summedAs, rowsFrom};
+ghost use Rattle.header.specs.Layout.{blockHeaderLength};
 ghost use Rattle.blend.specs.Calls as calls;
 
-// What a mark stands for, or a version, or a header, and the place after it.
-pub enum PointerSizeRead {
-    Is(PointerSize, Cursor),
-    Stopped(Fault),
-}
-
-pub enum EndiannessRead {
-    Is(Endianness, Cursor),
-    Stopped(Fault),
-}
-
-pub enum VersionRead {
-    Is(Version, Cursor),
-    Stopped(Fault),
-}
-
-enum HeaderRead {
-    Is(Header, Cursor),
-    Stopped(Fault),
-}
-
-// A file's header and its length, or the number of the refusal.
-pub enum HeaderAnswer {
-    Is(Header, usize),
-    Refused(u64),
-}
-
-pub fn pointer_size(c: Cursor, s: &[u8]) -> PointerSizeRead
-    ensures { λ r. ⌜ calls.«blend::pointer_size» c (now (s .entry)) r ⌝ }
-{
-    let short = c.begins(s, b"_");
-    if short.there {
-        let next = short.next;
-        return PointerSizeRead::Is(PointerSize::Bits32, next);
-    }
-    match c.mark(s, b"-") {
-        Moved::To(next) => PointerSizeRead::Is(PointerSize::Bits64, next),
-        Moved::Stopped(f) => PointerSizeRead::Stopped(f),
-    }
-}
-
-pub fn endianness(c: Cursor, s: &[u8]) -> EndiannessRead
-    ensures { λ r. ⌜ calls.«blend::endianness» c (now (s .entry)) r ⌝ }
-{
-    let little = c.begins(s, b"v");
-    if little.there {
-        let next = little.next;
-        return EndiannessRead::Is(Endianness::Little, next);
-    }
-    match c.mark(s, b"V") {
-        Moved::To(next) => EndiannessRead::Is(Endianness::Big, next),
-        Moved::Stopped(f) => EndiannessRead::Stopped(f),
-    }
-}
-
-// A version of n bytes.
-fn version_bytes(c: Cursor, s: &[u8], n: usize) -> VersionRead
-    requires { ⌜ n ≤ 4 ⌝ }
-    ensures { λ r. ⌜ headers.versionRead r ≡ run (bytes n (λ v. done (headers.versionOf v))) (now (s .entry)) (c .at) ⌝ }
-{
-    match c.bytes(s, n) {
-        Moved::Stopped(f) => VersionRead::Stopped(f),
-        Moved::To(next) => VersionRead::Is(Version::from_digits(c.part(s, n)), next),
-    }
-}
-
-pub fn version(c: Cursor, s: &[u8]) -> VersionRead
-    ensures { λ r. ⌜ calls.«blend::version» c (now (s .entry)) r ⌝ }
-{
-    version_bytes(c, s, 3)
-}
-
-// A Legacy header after its pointer mark.
-fn legacy(c: Cursor, s: &[u8], size: PointerSize) -> HeaderRead
-    ensures { λ r. ⌜ headerRead r ≡ headers.valued (run (headers.legacy size) (now (s .entry)) (c .at)) ⌝ }
-{
-    match endianness(c, s) {
-        EndiannessRead::Stopped(f) => HeaderRead::Stopped(f),
-        EndiannessRead::Is(order, next) => match version(next, s) {
-            VersionRead::Stopped(f) => HeaderRead::Stopped(f),
-            VersionRead::Is(v, last) => HeaderRead::Is(
-                Header::new(size, order, v, FileFormat::Legacy),
-                last,
-            ),
-        },
-    }
-}
-
-// A New header from its second pair of unchecked bytes on.
-fn new_order(c: Cursor, s: &[u8], size: PointerSize) -> HeaderRead
-    ensures { λ r. ⌜ ((a : List ℕ) → headerRead r ≡ headers.valued (run (newOrder size a) (now (s .entry)) (c .at))) ⌝ }
-{
-    match c.bytes(s, 2) {
-        Moved::Stopped(f) => HeaderRead::Stopped(f),
-        Moved::To(mark) => match endianness(mark, s) {
-            EndiannessRead::Stopped(f) => HeaderRead::Stopped(f),
-            EndiannessRead::Is(order, next) => match version_bytes(next, s, 4) {
-                VersionRead::Stopped(f) => HeaderRead::Stopped(f),
-                VersionRead::Is(v, last) => HeaderRead::Is(
-                    Header::new(size, order, v, FileFormat::New),
-                    last,
-                ),
-            },
-        },
-    }
-}
-
-// A New header after its magic.
-fn new(c: Cursor, s: &[u8]) -> HeaderRead
-    ensures { λ r. ⌜ headerRead r ≡ headers.valued (run headers.new (now (s .entry)) (c .at)) ⌝ }
-{
-    match c.bytes(s, 2) {
-        Moved::Stopped(f) => HeaderRead::Stopped(f),
-        Moved::To(mark) => match pointer_size(mark, s) {
-            PointerSizeRead::Stopped(f) => HeaderRead::Stopped(f),
-            PointerSizeRead::Is(size, next) => new_order(next, s, size),
-        },
-    }
-}
-
-// A file's header, with the fault as the tree has it.
-fn header_in(s: &[u8]) -> HeaderRead
-    ensures { λ r. ⌜ headerRead r ≡ headers.valued (run headers.headerBytes (now (s .entry)) 0) ⌝ }
-{
-    let start = Cursor { at: 0 };
-    let magic = start.begins(s, b"BLENDER");
-    if magic.there {
-        let c = magic.next;
-        let short = c.begins(s, b"_");
-        if short.there {
-            let next = short.next;
-            return legacy(next, s, PointerSize::Bits32);
-        }
-        let long = c.begins(s, b"-");
-        if long.there {
-            let next = long.next;
-            return legacy(next, s, PointerSize::Bits64);
-        }
-        new(c, s)
-    } else {
-        HeaderRead::Stopped(Fault::Refusal(1))
-    }
-}
-
-// The number of a fault's refusal: a cut and a wrong mark are both malformed.
-pub(crate) fn number_of(f: Fault) -> u64
-    ensures { λ r. ⌜ refuses r [] ≡ paperFault f ⌝ }
-{
-    match f {
-        Fault::Cut(_) => 2,
-        Fault::Mark(_) => 2,
-        Fault::Refusal(n) => n,
-    }
-}
-
-pub fn header(file: &[u8]) -> HeaderAnswer
-    ensures { λ r. ⌜ calls.«blend::header» (now (file .entry)) r ⌝ }
-{
-    match header_in(file) {
-        HeaderRead::Is(h, c) => HeaderAnswer::Is(h, c.at),
-        HeaderRead::Stopped(f) => HeaderAnswer::Refused(number_of(f)),
-    }
-}
-
-// The number of a header's refusal, 0 where it is none.
-pub fn refusal_of(answer: HeaderAnswer) -> u64
-    ensures { λ r. ⌜ calls.«blend::refusal_of» answer r ⌝ }
-{
-    match answer {
-        HeaderAnswer::Is(_, _) => 0,
-        HeaderAnswer::Refused(n) => n,
-    }
-}
-
-// A block's code as its number, the first byte most significant.
+/// A block's code as its number, the first byte most significant.
 pub fn block_header_code(c: Cursor, s: &[u8]) -> Numbered
     ensures { λ r. ⌜ calls.«blend::block_header_code» c (now (s .entry)) r ⌝ }
 {
@@ -231,109 +59,9 @@ fn address_width(p: PointerSize) -> Width
     }
 }
 
-fn memory_address(c: Cursor, s: &[u8], h: Header) -> Numbered
-    ensures { λ r. ⌜ numbered r ≡ run (memoryAddress h) (now (s .entry)) (c .at) ⌝ }
-{
-    let size = h.pointer_size;
-    let order = h.endianness;
-    match c.number(s, address_width(size), order) {
-        Numbered::Stopped(f) => Numbered::Stopped(f),
-        Numbered::Is(address, next) => if address == 0 {
-            Numbered::Stopped(Fault::Refusal(3))
-        } else {
-            Numbered::Is(address, next)
-        },
-    }
-}
-
 enum BlockHeaderRead {
     Is(BlockHeader, Cursor),
     Stopped(Fault),
-}
-
-// The width and the order of a block header's last two numbers.
-fn other_width(format: FileFormat) -> Width
-    ensures { λ r. ⌜ widthOf r ≡ otherWidth format ⌝ }
-{
-    match format {
-        FileFormat::Legacy => Width::Four,
-        FileFormat::New => Width::Eight,
-    }
-}
-
-fn other_order(format: FileFormat, order: Endianness) -> Endianness
-    ensures { λ r. ⌜ r ≡ otherOrder format order ⌝ }
-{
-    match format {
-        FileFormat::Legacy => order,
-        FileFormat::New => Endianness::Little,
-    }
-}
-
-// A block header of its code and of the four numbers after it, in the order in which they stand.
-fn made(
-    format: FileFormat,
-    code: u64,
-    first: u64,
-    address: u64,
-    second: u64,
-    third: u64,
-) -> BlockHeader
-    ensures { λ r. ⌜ r ≡ helpers.made format code first address second third ⌝ }
-{
-    match format {
-        FileFormat::Legacy => BlockHeader::new(code, first, address, second, third),
-        FileFormat::New => BlockHeader::new(code, second, address, first, third),
-    }
-}
-
-// A block header after its code: one number of 4 bytes, the address, and two numbers of one width.
-fn four_numbers(
-    c: Cursor,
-    s: &[u8],
-    h: Header,
-    code: u64,
-    width: Width,
-    order: Endianness,
-) -> BlockHeaderRead
-    ensures { λ r. ⌜ blockHeaderRead r ≡ run (four h code (widthOf width) order) (now (s .entry)) (c .at) ⌝ }
-{
-    let format = h.format;
-    match c.number(s, Width::Four, order) {
-        Numbered::Stopped(f) => BlockHeaderRead::Stopped(f),
-        Numbered::Is(first, a) => match memory_address(a, s, h) {
-            Numbered::Stopped(f) => BlockHeaderRead::Stopped(f),
-            Numbered::Is(address, b) => match b.number(s, width, order) {
-                Numbered::Stopped(f) => BlockHeaderRead::Stopped(f),
-                Numbered::Is(second, d) => match d.number(s, width, order) {
-                    Numbered::Stopped(f) => BlockHeaderRead::Stopped(f),
-                    Numbered::Is(third, last) => BlockHeaderRead::Is(
-                        made(format, code, first, address, second, third),
-                        last,
-                    ),
-                },
-            },
-        },
-    }
-}
-
-// A block header of either edition, read by read: what stops it first, where not all of it is there.
-fn header_by_reads(c: Cursor, s: &[u8], h: Header) -> BlockHeaderRead
-    ensures { λ r. ⌜ blockHeaderRead r ≡ run (blocks.blockHeader h) (now (s .entry)) (c .at) ⌝ }
-{
-    let format = h.format;
-    let order = h.endianness;
-    match block_header_code(c, s) {
-        Numbered::Stopped(f) => BlockHeaderRead::Stopped(f),
-        Numbered::Is(code, next) => four_numbers(
-            next,
-            s,
-            h,
-            code,
-            other_width(format),
-            other_order(format, order),
-        ),
-    }
 }
 
 // A number of four bytes, and of eight, that stands at a place.
@@ -343,7 +71,7 @@ fn word(s: &[u8], at: usize, order: Endianness) -> u64
 {
     match parse_u32(&s[at..at + 4], order) {
         ValueU32::Is(n) => n as u64,
-        ValueU32::Short => 0,
+        ValueU32::Refused(_) => 0,
     }
 }
 
@@ -353,14 +81,14 @@ fn long(s: &[u8], at: usize, order: Endianness) -> u64
 {
     match parse_u64(&s[at..at + 8], order) {
         ValueU64::Is(n) => n,
-        ValueU64::Short => 0,
+        ValueU64::Refused(_) => 0,
     }
 }
 
 // Where the last two numbers of a block header stand that starts at a place.
 fn last_two(at: usize, h: Header) -> usize
     requires { ⌜ at < 2 ^ 63 ⌝ }
-    ensures { λ r. ⌜ r ≡ at + 8 + pointerBytes (h .«pointer_size») ⌝ }
+    ensures { λ r. ⌜ r ≡ at + 4 + 4 + pointerBytes (h .«pointer_size») ⌝ }
 {
     let size = h.pointer_size;
     at + 8 + size.bytes_num()
@@ -368,7 +96,7 @@ fn last_two(at: usize, h: Header) -> usize
 
 // The numbers of a block header all of which stands at a place.
 fn size_there(s: &[u8], at: usize, h: Header) -> u64
-    requires { ⌜ at + blocks.blockHeaderLength (h .format) (h .«pointer_size») ≤ length (now s) ⌝ }
+    requires { ⌜ at + blockHeaderLength (h .format) (h .«pointer_size») ≤ length (now s) ⌝ }
     ensures { λ r. ⌜ r ≡ headerAt h (now (s .entry)) at .size ⌝ }
 {
     let order = h.endianness;
@@ -380,7 +108,7 @@ fn size_there(s: &[u8], at: usize, h: Header) -> u64
 }
 
 fn address_there(s: &[u8], at: usize, h: Header) -> u64
-    requires { ⌜ at + blocks.blockHeaderLength (h .format) (h .«pointer_size») ≤ length (now s) ⌝ }
+    requires { ⌜ at + blockHeaderLength (h .format) (h .«pointer_size») ≤ length (now s) ⌝ }
     ensures { λ r. ⌜ r ≡ headerAt h (now (s .entry)) at .address ⌝ }
 {
     let order = h.endianness;
@@ -392,7 +120,7 @@ fn address_there(s: &[u8], at: usize, h: Header) -> u64
 }
 
 fn index_there(s: &[u8], at: usize, h: Header) -> u64
-    requires { ⌜ at + blocks.blockHeaderLength (h .format) (h .«pointer_size») ≤ length (now s) ⌝ }
+    requires { ⌜ at + blockHeaderLength (h .format) (h .«pointer_size») ≤ length (now s) ⌝ }
     ensures { λ r. ⌜ r ≡ headerAt h (now (s .entry)) at .index ⌝ }
 {
     let order = h.endianness;
@@ -404,7 +132,7 @@ fn index_there(s: &[u8], at: usize, h: Header) -> u64
 }
 
 fn count_there(s: &[u8], at: usize, h: Header) -> u64
-    requires { ⌜ at + blocks.blockHeaderLength (h .format) (h .«pointer_size») ≤ length (now s) ⌝ }
+    requires { ⌜ at + blockHeaderLength (h .format) (h .«pointer_size») ≤ length (now s) ⌝ }
     ensures { λ r. ⌜ r ≡ headerAt h (now (s .entry)) at .count ⌝ }
 {
     let order = h.endianness;
@@ -417,7 +145,7 @@ fn count_there(s: &[u8], at: usize, h: Header) -> u64
 
 // The block header, and the row. Neither is made of the other, so that a compiler makes each a part of its pass.
 fn header_there(s: &[u8], at: usize, h: Header) -> BlockHeader
-    requires { ⌜ at + blocks.blockHeaderLength (h .format) (h .«pointer_size») ≤ length (now s) ⌝ }
+    requires { ⌜ at + blockHeaderLength (h .format) (h .«pointer_size») ≤ length (now s) ⌝ }
     ensures { λ r. ⌜ r ≡ headerAt h (now (s .entry)) at ⌝ }
 {
     BlockHeader {
@@ -430,7 +158,7 @@ fn header_there(s: &[u8], at: usize, h: Header) -> BlockHeader
 }
 
 fn row_there(s: &[u8], at: usize, h: Header) -> Row
-    requires { ⌜ at + blocks.blockHeaderLength (h .format) (h .«pointer_size») ≤ length (now s) ⌝ }
+    requires { ⌜ at + blockHeaderLength (h .format) (h .«pointer_size») ≤ length (now s) ⌝ }
     ensures { λ r. ⌜ r ≡ blocks.rowOf h at (headerAt h (now (s .entry)) at) ⌝ }
 {
     let format = h.format;
@@ -452,9 +180,54 @@ fn with_address(b: BlockHeader, next: Cursor) -> BlockHeaderRead
     ensures { λ r. ⌜ blockHeaderRead r ≡ withAddress b (next .at) ⌝ }
 {
     if b.address == 0 {
-        return BlockHeaderRead::Stopped(Fault::Refusal(3));
+        return BlockHeaderRead::Stopped(Fault::Refusal(Fault::INVALID_MEMORY_ADDRESS));
     }
     BlockHeaderRead::Is(b, next)
+}
+
+// The width of each of a block header's last two numbers.
+fn last_width(format: FileFormat) -> usize
+    ensures { λ r. ⌜ r ≡ lastWidth format ⌝ }
+{
+    match format {
+        FileFormat::Legacy => 4,
+        FileFormat::New => 8,
+    }
+}
+
+// What stops the last two numbers of a block header, not both of which are there.
+fn last_missing(c: Cursor, s: &[u8], format: FileFormat) -> Fault
+    requires { ⌜ length (now s) < c .at + (lastWidth format + lastWidth format) ⌝ }
+    ensures { λ r. ⌜ ((p : ℕ) (e : Endianness) (b : BlockHeader) → fault r ≡ run (blocks.fields (lastTwo format p e) b) (now (s .entry)) (c .at)) ⌝ }
+{
+    match c.skip(s, last_width(format)) {
+        Moved::Stopped(f) => f,
+        Moved::To(last) => Fault::Cut(last.at),
+    }
+}
+
+// What stops a block header not all of which is there: the first of its numbers that is not, unless its address is there and is 0.
+fn missing(c: Cursor, s: &[u8], h: Header) -> Fault
+    requires { ⌜ length (now s) < c .at + blockHeaderLength (h .format) (h .«pointer_size») ⌝ }
+    ensures { λ r. ⌜ fault r ≡ run (blocks.blockHeader h) (now (s .entry)) (c .at) ⌝ }
+{
+    let size = h.pointer_size;
+    let order = h.endianness;
+    let format = h.format;
+    match c.skip(s, 4) {
+        Moved::Stopped(f) => f,
+        Moved::To(first) => match first.skip(s, 4) {
+            Moved::Stopped(f) => f,
+            Moved::To(address) => match address.number(s, address_width(size), order) {
+                Numbered::Stopped(f) => f,
+                Numbered::Is(n, second) => if n == 0 {
+                    Fault::Refusal(Fault::INVALID_MEMORY_ADDRESS)
+                } else {
+                    last_missing(second, s, format)
+                },
+            },
+        },
+    }
 }
 
 // A block header of either edition.
@@ -465,7 +238,7 @@ fn block_header(c: Cursor, s: &[u8], h: Header) -> BlockHeaderRead
     let size = h.pointer_size;
     match c.skip(s, format.block_header_len(size)) {
         Moved::To(next) => with_address(header_there(s, c.at, h), next),
-        Moved::Stopped(_) => header_by_reads(c, s, h),
+        Moved::Stopped(_) => BlockHeaderRead::Stopped(missing(c, s, h)),
     }
 }
 
@@ -475,21 +248,17 @@ enum Taking {
     No(u64),
 }
 
-fn taken(kind: Kind, count: u64) -> Taking
-    ensures { λ r. ⌜ taking r ≡ blocks.taken kind count ⌝ }
+fn taken(takes: Takes, count: u64) -> Taking
+    ensures { λ r. ⌜ taking r ≡ blocks.takenBy takes count ⌝ }
 {
-    match kind {
-        Kind::Rend => Taking::Yes,
-        Kind::Test => Taking::Yes,
-        Kind::Global => Taking::Yes,
-        Kind::Subsidiary => Taking::Yes,
-        Kind::Dna => Taking::Yes,
-        Kind::Principal => if count == 1 {
+    match takes {
+        Takes::Always => Taking::Yes,
+        Takes::Alone => if count == 1 {
             Taking::Yes
         } else {
-            Taking::No(4)
+            Taking::No(Fault::UNSUPPORTED_COUNT_ON_PRINCIPAL_BLOCK)
         },
-        Kind::Unknown => Taking::No(5),
+        Takes::Never => Taking::No(Fault::UNKNOWN_BLOCK_CODE),
     }
 }
 
@@ -521,44 +290,34 @@ fn block(c: Cursor, s: &[u8], h: Header) -> RowRead
         BlockHeaderRead::Stopped(f) => RowRead::Stopped(f),
         BlockHeaderRead::Is(b, from) => match from.skip(s, b.size as usize) {
             Moved::Stopped(f) => RowRead::Stopped(f),
-            Moved::To(next) => match taken(Kind::of_code(b.code), b.count) {
-                Taking::No(n) => RowRead::Stopped(Fault::Refusal(n)),
-                Taking::Yes => {
-                    let format = h.format;
-                    let size = h.pointer_size;
-                    let payload = c.at + format.block_header_len(size);
-                    RowRead::Is(row_of(b, c.at, payload), next.at)
+            Moved::To(next) => {
+                let about = Kind::of_code(b.code).about();
+                let takes = about.takes;
+                match taken(takes, b.count) {
+                    Taking::No(n) => RowRead::Stopped(Fault::Refusal(n)),
+                    Taking::Yes => {
+                        let format = h.format;
+                        let size = h.pointer_size;
+                        let payload = c.at + format.block_header_len(size);
+                        RowRead::Is(row_of(b, c.at, payload), next.at)
+                    }
                 }
-            },
+            }
         },
     }
 }
 
-// Of the last block before a boundary: its catalogue's counts where it is a DNA1.
+/// Of the last block before a boundary: its catalogue's counts where it is a DNA1.
 pub enum Last {
     Other,
     Dna(DnaCounts),
 }
 
-// What is at a boundary: the end mark; or a block's row, what it is as a last block, and the next boundary; or the fault.
+/// What is at a boundary: the end mark; or a block's row, what it is as a last block, and the next boundary; or the fault.
 pub enum Boundary {
     EndMark,
     Block(Row, Last, usize),
     Stopped(Fault),
-}
-
-fn is_dna(kind: Kind) -> bool
-    ensures { λ r. ⌜ r ≡ blocks.isDna kind ⌝ }
-{
-    match kind {
-        Kind::Rend => false,
-        Kind::Test => false,
-        Kind::Global => false,
-        Kind::Subsidiary => false,
-        Kind::Dna => true,
-        Kind::Principal => false,
-        Kind::Unknown => false,
-    }
 }
 
 // A fault in the payload that starts at from, told by its place in the file.
@@ -578,7 +337,8 @@ fn finished(s: &[u8], h: Header, r: Row, next: usize) -> Boundary
     requires { ⌜ (r .payload + r .len ≤ length (now s)) ⌝ }
     ensures { λ b. ⌜ b ≡ blocks.finished h (now (s .entry)) r next ⌝ }
 {
-    if is_dna(Kind::of_code(r.code)) {
+    let about = Kind::of_code(r.code).about();
+    if about.dna {
         let from = r.payload as usize;
         let len = r.len as usize;
         let order = h.endianness;
@@ -591,8 +351,9 @@ fn finished(s: &[u8], h: Header, r: Row, next: usize) -> Boundary
     }
 }
 
-pub(crate) fn boundary_at(s: &[u8], h: Header, at: usize) -> Boundary
-    ensures { λ r. ⌜ r ≡ blocks.boundaryOf h (now (s .entry)) at ⌝ }
+/// What is at a boundary of a file with this header.
+pub fn boundary_at(s: &[u8], h: Header, at: usize) -> Boundary
+    ensures { λ r. ⌜ calls.«blend::boundary_at» (now (s .entry)) h at r ⌝ }
 {
     if stands_at(s, at, b"ENDB") {
         return Boundary::EndMark;
@@ -609,13 +370,34 @@ enum Chained {
     Stopped(Fault),
 }
 
-// The end of a chain of so many rows, whose last block is this.
-fn ended(rows: usize, last: Last, end: usize) -> Chained
-    ensures { λ r. ⌜ r ≡ summedAs rows (chains.ended last end) ⌝ }
+// How far the first pass has come: the next boundary, how many rows lie before it, and what the last of them is.
+struct Pass {
+    at: usize,
+    rows: usize,
+    last: Last,
+}
+
+// The end of a pass that has come to an end mark.
+fn ended(pass: Pass) -> Chained
+    requires { ⌜ pass .at + 4 ≤ 18446744073709551615 ⌝ }
+    ensures { λ r. ⌜ r ≡ summedAs (pass .rows) (chains.ended (pass .last) (pass .at + 4)) ⌝ }
 {
+    let last = pass.last;
     match last {
-        Last::Other => Chained::Stopped(Fault::Refusal(6)),
-        Last::Dna(n) => Chained::Ends(rows, n, end),
+        Last::Other => Chained::Stopped(Fault::Refusal(Fault::NO_DNA_BLOCK_FOUND)),
+        Last::Dna(n) => Chained::Ends(pass.rows, n, pass.at + 4),
+    }
+}
+
+// A pass with one block more.
+fn passed(pass: Pass, last: Last, next: usize) -> Pass
+    requires { ⌜ pass .rows < 18446744073709551615 ⌝ }
+    ensures { λ r. ⌜ r ≡ record { at = next; rows = pass .rows + 1; last = last } ⌝ }
+{
+    Pass {
+        at: next,
+        rows: pass.rows + 1,
+        last,
     }
 }
 
@@ -624,48 +406,48 @@ fn count_blocks(s: &[u8], h: Header, from: usize) -> Chained
     requires { ⌜ from ≤ length (now s) ⌝ }
     ensures { λ r. ⌜ r ≡ summed 0 (chains.chainFrom h (now (s .entry)) from) ⌝ }
 {
-    let mut at = from;
-    let mut rows = 0;
-    let mut last = Last::Other;
-    while at < s.len() {
-        match boundary_at(s, h, at) {
+    let mut pass = Pass {
+        at: from,
+        rows: 0,
+        last: Last::Other,
+    };
+    while pass.at < s.len() {
+        match boundary_at(s, h, pass.at) {
             Boundary::EndMark => {
-                return ended(rows, last, at + 4);
+                return ended(pass);
             }
             Boundary::Stopped(f) => {
                 return Chained::Stopped(f);
             }
-            Boundary::Block(_, l, next) => {
-                at = next;
-                rows += 1;
-                last = l;
+            Boundary::Block(_, last, next) => {
+                pass = passed(pass, last, next);
             }
         }
     }
-    Chained::Stopped(Fault::Cut(at))
+    Chained::Stopped(Fault::Cut(pass.at))
 }
 
-// Stores a row's seven numbers from a place on, and answers the place after them.
+// Stores a row's numbers from a place on, and answers the place after them.
 fn put_row(table: &mut [u64], i: usize, r: Row) -> usize
-    requires { ⌜ i + chains.perRow ≤ length (now table) ⌝ }
-    ensures { λ n. ⌜ n ≡ i + chains.perRow ⌝ }
-    ensures { λ _. ⌜ now (table .exit) ≡ put (now (table .entry)) i (chains.rowNumbers r) ⌝ }
+    requires { ⌜ i + perRow ≤ length (now table) ⌝ }
+    ensures { λ n. ⌜ n ≡ i + perRow ⌝ }
+    ensures { λ _. ⌜ now (table .exit) ≡ put (now (table .entry)) i (rowNumbers r) ⌝ }
 {
-    table[i] = r.code;
-    table[i + 1] = r.address;
-    table[i + 2] = r.index;
-    table[i + 3] = r.count;
-    table[i + 4] = r.at;
-    table[i + 5] = r.payload;
-    table[i + 6] = r.len;
+    table[i + Row::CODE] = r.code;
+    table[i + Row::ADDRESS] = r.address;
+    table[i + Row::INDEX] = r.index;
+    table[i + Row::COUNT] = r.count;
+    table[i + Row::AT] = r.at;
+    table[i + Row::PAYLOAD] = r.payload;
+    table[i + Row::LEN] = r.len;
     i + Row::NUMBERS
 }
 
 // The second pass: the rows of n blocks, which the first has read. Nothing is tested again.
 fn fill_rows(s: &[u8], h: Header, from: usize, n: usize, table: &mut [u64])
-    requires { ⌜ length (chains.rowTable (rowsFrom n h (now s) from)) ≤ length (now table) ⌝ }
+    requires { ⌜ length (rowTable (rowsFrom n h (now s) from)) ≤ length (now table) ⌝ }
     requires { ⌜ length (rowsFrom n h (now s) from) ≡ n ⌝ }
-    ensures { λ _. ⌜ now (table .exit) ≡ put (now (table .entry)) 0 (chains.rowTable (rowsFrom n h (now (s .entry)) from)) ⌝ }
+    ensures { λ _. ⌜ now (table .exit) ≡ put (now (table .entry)) 0 (rowTable (rowsFrom n h (now (s .entry)) from)) ⌝ }
 {
     let mut at = from;
     let mut left = n;
@@ -678,7 +460,7 @@ fn fill_rows(s: &[u8], h: Header, from: usize, n: usize, table: &mut [u64])
     }
 }
 
-// A file that is read: its header, how many rows its blocks have, the offset after the end mark, and what the last DNA1 has.
+/// A file that is read: its header, how many rows its blocks have, the offset after the end mark, and what the last DNA1 has.
 pub struct RawBlend {
     pub header: Header,
     pub rows: usize,
@@ -686,6 +468,7 @@ pub struct RawBlend {
     pub dna: DnaCounts,
 }
 
+/// A file that is read, or why it is not.
 pub enum BlendAnswer {
     Is(RawBlend),
     // A refusal that carries nothing, by its number.
@@ -697,11 +480,11 @@ pub enum BlendAnswer {
 // The blocks after a header that was read and ends at from.
 fn read_after(file: &[u8], h: Header, from: usize, table: &mut [u64]) -> BlendAnswer
     requires { ⌜ from ≤ length (now file) ⌝ }
-    ensures { λ r. ⌜ chains.paperBlend r ≡ chains.answerFor h (length (chains.chainFrom h (now (file .entry)) from .rows)) (length (now (table .entry)) / chains.perRow) (chains.chainFrom h (now (file .entry)) from .last) ⌝ }
-    ensures { λ r. ⌜ now (table .exit) ≡ written (chains.paperBlend r) (chains.rowTable (chains.chainFrom h (now (file .entry)) from .rows)) (now (table .entry)) ⌝ }
+    ensures { λ r. ⌜ chains.paperBlend r ≡ chains.answerFor h (length (chains.chainFrom h (now (file .entry)) from .rows)) (length (now (table .entry)) / perRow) (chains.chainFrom h (now (file .entry)) from .last) ⌝ }
+    ensures { λ r. ⌜ now (table .exit) ≡ written (chains.paperBlend r) (rowTable (chains.chainFrom h (now (file .entry)) from .rows)) (now (table .entry)) ⌝ }
 {
     match count_blocks(file, h, from) {
-        Chained::Stopped(f) => BlendAnswer::Refused(number_of(f)),
+        Chained::Stopped(f) => BlendAnswer::Refused(f.refusal()),
         Chained::Ends(rows, counts, end) => {
             if table.len() / Row::NUMBERS < rows {
                 return BlendAnswer::TableTooShort(rows);
@@ -717,7 +500,7 @@ fn read_after(file: &[u8], h: Header, from: usize, table: &mut [u64]) -> BlendAn
     }
 }
 
-// Reads a file into a row table.
+/// Reads a file into a row table.
 pub fn blend(file: &[u8], table: &mut [u64]) -> BlendAnswer
     ensures { λ r. ⌜ calls.«blend::blend» (now (file .entry)) (now (table .entry)) r (now (table .exit)) ⌝ }
 {

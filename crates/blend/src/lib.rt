@@ -1,128 +1,10 @@
-// The values that a reading of a file has: the types of parsers/blend.rs of the Rust, and a block's row.
+// The values that a reading of a file's blocks has: the types of parsers/blend.rs of the Rust, and a block's row.
 pub mod blend;
-pub mod walker;
 
-use primitive::Endianness;
-use primitive::PointerSize;
 ghost use mathlib.Core.Path.{_≡_};
-ghost use Prim.Native.Nat.{_≤_, _<_};
-ghost use lib.ListN.{length};
-ghost use mathlib.Core.List.{[], _∷_};
-ghost use Rattle.blend.specs.Header as headers;
 ghost use Rattle.blend.specs.Calls as calls;
 
-/// The on-disk layout of a blend file.
-pub enum FileFormat {
-    /// Pre-5.0 format: 12-byte file header and a block header of
-    /// `code(4) + size(u32) + address(ptr) + sdna_index(u32) + count(u32)`.
-    Legacy,
-    /// Blender 5.0+ format: 17-byte file header and a block header of
-    /// `code(4) + sdna_index(u32) + address(ptr) + size(u64) + count(u64)`.
-    New,
-}
-
-impl FileFormat {
-    pub const LEGACY_HEADER: usize = 12;
-
-    pub const NEW_HEADER: usize = 17;
-
-    // A block header's bytes beside its address.
-    pub const LEGACY_BLOCK: usize = 16;
-
-    pub const NEW_BLOCK: usize = 24;
-
-    /// Returns the length of the file header in bytes.
-    pub fn header_len(self) -> usize
-        ensures { λ r. ⌜ calls.«FileFormat::header_len» self r ⌝ }
-        ensures constants { λ _. do ⌜ ((← ⟦FileFormat::LEGACY_HEADER⟧ .entry) ≡ 12) × ((← ⟦FileFormat::NEW_HEADER⟧ .entry) ≡ 17) ⌝ }
-    {
-        match self {
-            FileFormat::Legacy => FileFormat::LEGACY_HEADER,
-            FileFormat::New => FileFormat::NEW_HEADER,
-        }
-    }
-
-    /// Returns the length of a block header in bytes: 20, 24, 28 or 32.
-    pub fn block_header_len(self, pointer_size: PointerSize) -> usize
-        ensures { λ r. ⌜ calls.«FileFormat::block_header_len» self «pointer_size» r ⌝ }
-        ensures constants { λ _. do ⌜ ((← ⟦FileFormat::LEGACY_BLOCK⟧ .entry) ≡ 16) × ((← ⟦FileFormat::NEW_BLOCK⟧ .entry) ≡ 24) ⌝ }
-    {
-        match self {
-            FileFormat::Legacy => FileFormat::LEGACY_BLOCK + pointer_size.bytes_num(),
-            FileFormat::New => FileFormat::NEW_BLOCK + pointer_size.bytes_num(),
-        }
-    }
-}
-
-/// The version of Blender used to save the blend file.
-pub struct Version {
-    pub major: u16,
-    pub minor: u16,
-}
-
-impl Version {
-    /// The version that ASCII digits spell; other bytes are passed over.
-    pub(crate) fn from_digits(digits: &[u8]) -> Self
-        requires { ⌜ length (now digits) ≤ 4 ⌝ }
-        ensures { λ r. ⌜ r ≡ headers.versionOf (now (digits .entry)) ⌝ }
-    {
-        let mut combined: u16 = 0;
-        let mut i = 0;
-        while i < digits.len() {
-            combined = with_digit(combined, digits[i]);
-            i += 1;
-        }
-        Version {
-            major: combined / 100,
-            minor: combined % 100,
-        }
-    }
-}
-
-// A number with one decimal digit more, or the same where the byte is none.
-fn with_digit(n: u16, b: u8) -> u16
-    requires { ⌜ n < 1000 ⌝ }
-    ensures { λ r. ⌜ r ≡ headers.decimal n (b ∷ []) ⌝ }
-{
-    if b < b'0' {
-        return n;
-    }
-    if b'9' < b {
-        return n;
-    }
-    n * 10 + ((b - b'0') as u16)
-}
-
-pub struct Header {
-    /// The size of the pointer on the machine used to save the blend file.
-    pub pointer_size: PointerSize,
-    /// The endianness on the machine used to save the blend file.
-    pub endianness: Endianness,
-    /// The version of Blender used to save the blend file.
-    pub version: Version,
-    /// The on-disk layout of the file, which controls how block headers are parsed.
-    pub format: FileFormat,
-}
-
-impl Header {
-    pub fn new(
-        pointer_size: PointerSize,
-        endianness: Endianness,
-        version: Version,
-        format: FileFormat,
-    ) -> Self
-        ensures { λ r. ⌜ calls.«Header::new» «pointer_size» endianness version format r ⌝ }
-    {
-        Header {
-            pointer_size,
-            endianness,
-            version,
-            format,
-        }
-    }
-}
-
-// What a block header says.
+/// What a block header says.
 pub struct BlockHeader {
     pub code: u64,
     pub size: u64,
@@ -132,6 +14,7 @@ pub struct BlockHeader {
 }
 
 impl BlockHeader {
+    /// A block header of its numbers.
     pub fn new(code: u64, size: u64, address: u64, index: u64, count: u64) -> Self
         ensures { λ r. ⌜ calls.«BlockHeader::new» code size address index count r ⌝ }
     {
@@ -145,7 +28,7 @@ impl BlockHeader {
     }
 }
 
-// What a block is, by its code: the variants of the Rust's Block, and a code that is none of them.
+/// What a block is, by its code: the variants of the Rust's Block, and a code that is none of them.
 pub enum Kind {
     Rend,
     Test,
@@ -157,7 +40,7 @@ pub enum Kind {
 }
 
 impl Kind {
-    // Which kind a code's number is, its first byte most significant.
+    /// Which kind a code's number is, its first byte most significant.
     pub fn of_code(code: u64) -> Self
         ensures { λ r. ⌜ calls.«Kind::of_code» code r ⌝ }
     {
@@ -187,7 +70,56 @@ impl Kind {
     }
 }
 
-// A block as the row table has it: its header's numbers but for the size, where its header and its payload start, and the payload's length.
+/// How a block is taken, by its kind.
+pub enum Takes {
+    Always,
+    // Where its count is 1.
+    Alone,
+    Never,
+}
+
+/// What follows from a block's kind.
+pub struct About {
+    pub takes: Takes,
+    // Whether it is found by its address.
+    pub found: bool,
+    // Whether it has a code.
+    pub coded: bool,
+    pub dna: bool,
+}
+
+impl About {
+    /// What follows from a kind, of its parts.
+    pub fn new(takes: Takes, found: bool, coded: bool, dna: bool) -> Self
+        ensures { λ r. ⌜ calls.«About::new» takes found coded dna r ⌝ }
+    {
+        About {
+            takes,
+            found,
+            coded,
+            dna,
+        }
+    }
+}
+
+impl Kind {
+    /// What follows from the kind.
+    pub fn about(self) -> About
+        ensures { λ r. ⌜ calls.«Kind::about» self r ⌝ }
+    {
+        match self {
+            Kind::Rend => About::new(Takes::Always, false, true, false),
+            Kind::Test => About::new(Takes::Always, false, true, false),
+            Kind::Global => About::new(Takes::Always, false, true, false),
+            Kind::Subsidiary => About::new(Takes::Always, true, false, false),
+            Kind::Principal => About::new(Takes::Alone, true, true, false),
+            Kind::Dna => About::new(Takes::Always, false, true, true),
+            Kind::Unknown => About::new(Takes::Never, false, false, false),
+        }
+    }
+}
+
+/// A block as the row table has it: its header's numbers but for the size, where its header and its payload start, and the payload's length.
 pub struct Row {
     pub code: u64,
     pub address: u64,
@@ -199,6 +131,27 @@ pub struct Row {
 }
 
 impl Row {
-    // The numbers per row of a row table.
+    /// The numbers per row of a row table, and the column of each.
     pub const NUMBERS: usize = 7;
+
+    /// The column of a block's code.
+    pub const CODE: usize = 0;
+
+    /// The column of the address at which it was saved.
+    pub const ADDRESS: usize = 1;
+
+    /// The column of the number of its struct.
+    pub const INDEX: usize = 2;
+
+    /// The column of how many structs it holds.
+    pub const COUNT: usize = 3;
+
+    /// The column of the offset of its block header.
+    pub const AT: usize = 4;
+
+    /// The column of the offset of its payload.
+    pub const PAYLOAD: usize = 5;
+
+    /// The column of its payload's length.
+    pub const LEN: usize = 6;
 }

@@ -1,14 +1,14 @@
 // Lists the blocks of the file that standard input has.
-use blend::FileFormat;
-use blend::Header;
 use blend::Row;
 use blend::blend::BlendAnswer;
 use blend::blend::RawBlend;
 use blend::blend::blend;
+use bytes::Endianness;
+use bytes::PointerSize;
+use header::FileFormat;
+use header::Header;
 use libc::STDIN_FILENO;
 use libc::STDOUT_FILENO;
-use primitive::Endianness;
-use primitive::PointerSize;
 
 // How long an input may be. The buffer has a byte more, so that a longer one is told from one that just fits.
 const LONGEST: usize = 65536;
@@ -25,7 +25,7 @@ fn number(label: &[u8], n: u64) {
     io::print_decimal(STDOUT_FILENO, n);
 }
 
-// One of a row's seven numbers; the rows that are listed are there.
+// One of a row's numbers; the rows that are listed are there.
 fn cell(table: &[u64], row: usize, i: usize) -> u64 {
     if i < Row::NUMBERS {
         if row < table.len() / Row::NUMBERS {
@@ -60,13 +60,13 @@ fn header_line(h: Header) {
 fn block_line(table: &[u64], row: usize) {
     number(b"block ", row as u64);
     text(b" ");
-    io::print_hex(STDOUT_FILENO, cell(table, row, 0), 8);
-    number(b" ", cell(table, row, 1));
-    number(b" ", cell(table, row, 2));
-    number(b" ", cell(table, row, 3));
-    number(b" ", cell(table, row, 4));
-    number(b" ", cell(table, row, 5));
-    number(b" ", cell(table, row, 6));
+    io::print_hex(STDOUT_FILENO, cell(table, row, Row::CODE), 8);
+    number(b" ", cell(table, row, Row::ADDRESS));
+    number(b" ", cell(table, row, Row::INDEX));
+    number(b" ", cell(table, row, Row::COUNT));
+    number(b" ", cell(table, row, Row::AT));
+    number(b" ", cell(table, row, Row::PAYLOAD));
+    number(b" ", cell(table, row, Row::LEN));
     text(b"\n");
 }
 

@@ -7,21 +7,21 @@ use native.Mathlib.Omega.{arith}
 use borrow.Author.Tests.{ltb-false}
 use lib.Dec.{ltb}
 use lib.ListN.{length}
-use Rattle.primitive.specs.declared.Fault.{Fault}
-use Rattle.primitive.specs.declared.Fault.the-variants.{Cut, Mark, Refusal}
-use Rattle.primitive.specs.Paper.{Paper}
-use Rattle.primitive.specs.Reader.{Outcome}
-use Rattle.primitive.specs.Reader.Outcome.{read, fault}
-use Rattle.primitive.specs.Refusals.{blockTableTooShort, paperFault}
-use Rattle.primitive.specs.Tables.{over, written}
-use Rattle.primitive.proofs.Tests.{held, failed}
+use Rattle.bytes.specs.declared.Fault.{Fault}
+use Rattle.bytes.specs.declared.Fault.the-variants.{Cut, Mark, Refusal}
+use Rattle.bytes.specs.Paper.{Paper}
+use Rattle.bytes.specs.Reader.{Outcome}
+use Rattle.bytes.specs.Reader.Outcome.{read, fault}
+use Rattle.bytes.specs.Refusals.{blockTableTooShort, paperFault}
+use Rattle.bytes.specs.Tables.{over, written}
+use Rattle.bytes.proofs.Tests.{held, failed}
 use Rattle.dna.specs.declared.dna.DnaCounts.{DnaCounts}
 use Rattle.blend.specs.declared.blend.RawBlend.{RawBlend}
 use Rattle.blend.specs.declared.blend.BlendAnswer.{BlendAnswer}
-use Rattle.blend.specs.Chain.{File, perRow, rowTable, answerFor, readAs, rowsOf, tableAfter, paperBlend}
-use Rattle.blend.proofs.Lossless.{wholeBlend}
-use Rattle.held.specs.Held.{rowsSpelt}
-use Rattle.held.proofs.Same.{all-rows}
+use Rattle.blend.specs.Chain.{File, answerFor, readAs, rowsOf, tableAfter, paperBlend}
+use Rattle.blend.specs.Rows.{perRow, rowTable, rowsSpelt}
+use Rattle.blend.proofs.Lossless.{whole-blend}
+use Rattle.blend.proofs.Tables.{all-rows}
 use Rattle.demands.specs.Answers.{rowsIn}
 
 -- the answer that a file's reading has, where the table has room
@@ -58,7 +58,7 @@ module _ (o : Outcome File) (t t′ : List ℕ) (b : RawBlend) (p : paperBlend (
     fitting : ltb (length t / perRow) (length (f .chain .rows)) ≡ false → Accepted o t t′ b
     fitting g =
         let a : readAs o (length t / perRow) ≡ paperBlend (BlendAnswer.Is (answerOf f n end)) = answered ∙ failed _ _ g in
-        let c : BlendAnswer.Is b ≡ BlendAnswer.Is (answerOf f n end) = wholeBlend (BlendAnswer.Is b) (BlendAnswer.Is (answerOf f n end)) (p ∙ a) in
+        let c : BlendAnswer.Is b ≡ BlendAnswer.Is (answerOf f n end) = whole-blend (BlendAnswer.Is b) (BlendAnswer.Is (answerOf f n end)) (p ∙ a) in
         let d : b ≡ answerOf f n end = cc in
         let u : t′ ≡ over (rowTable (f .chain .rows)) t =
         q ∙ ap (λ (x : Paper). written x (rowTable (rowsOf o)) t) a ∙ ap (λ (x : Outcome File). over (rowTable (rowsOf x)) t) e in

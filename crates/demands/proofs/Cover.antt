@@ -5,24 +5,24 @@ use mathlib.Core.Path.{_≡_, sym, _∙_, ap, subst}
 use native.Mathlib.Omega.{arith}
 use lib.ListN.{take}
 use lib.Seq.{take-add, take-take, length-take-le}
-use Rattle.primitive.specs.Ascii.{ascii}
-use Rattle.primitive.specs.Reader.{Reader, run}
-use Rattle.primitive.specs.Reader.Outcome.{read}
+use Rattle.bytes.specs.Ascii.{ascii}
+use Rattle.bytes.specs.Reader.{Reader, run}
+use Rattle.bytes.specs.Reader.Outcome.{read}
 use Rattle.dna.specs.declared.dna.DnaCounts.{DnaCounts}
-use Rattle.blend.specs.declared.Header.{Header}
+use Rattle.header.specs.declared.Header.{Header}
 use Rattle.blend.specs.declared.Row.{Row}
 use Rattle.blend.specs.declared.blend.Last.{Last}
 use Rattle.blend.specs.declared.blend.RawBlend.{RawBlend}
 use Rattle.blend.specs.declared.blend.BlendAnswer.{BlendAnswer}
 use Rattle.blend.specs.Chain.{File, fileBy}
-use Rattle.blend.specs.Header.{HeaderBytes, headerLength, headerBytes, valued}
+use Rattle.header.specs.Header.{HeaderBytes, headerLength, headerBytes, valued}
 use Rattle.demands.specs.Answers.{HeaderTree, rowsIn}
 use Rattle.demands.specs.Cover.{EveryBlock, EveryBlockBy, blocksPart, Covered, Cover}
 use Rattle.demands.proofs.Accepted.{accepted}
 use Rattle.demands.proofs.Covering.{blocks-whole, rows-abut, rest-whole}
 use Rattle.demands.proofs.Files.{filed, file-linked, first-inside}
-use Rattle.demands.proofs.HeaderTrees.{headerTree}
-use Rattle.demands.proofs.Links.{linked-ends}
+use Rattle.demands.proofs.HeaderTrees.{header-tree}
+use Rattle.blend.proofs.Links.{linked-ends}
 
 module _ (header : Reader HeaderBytes) (tree : HeaderTree header) where
   -- of a file that the rules read
@@ -57,4 +57,4 @@ pub cover : EveryBlockBy
 cover = of-answer
 
 pub every-block : EveryBlock
-every-block = cover headerBytes headerTree
+every-block = cover headerBytes header-tree

@@ -1,30 +1,30 @@
 -- Header, block headers, payloads and end mark cover a file that is read.
-use Prim.Native.Nat.{ℕ, _+_, _≤_}
+use Prim.Native.Nat.{ℕ, _+_}
 use mathlib.Core.List.{List, [], _∷_, _++_, append-assoc}
 use mathlib.Core.Path.{_≡_, refl, sym, _∙_, ap, subst}
 use native.Mathlib.Omega.{arith}
-use lib.ListN.{length, take, drop, length-drop}
-use lib.Seq.{take-add, drop-drop, length-take-le}
-use Rattle.primitive.specs.declared.Endianness.the-variants.{Big}
-use Rattle.primitive.specs.Ascii.{ascii}
-use Rattle.primitive.specs.Number.{spelled}
-use Rattle.primitive.proofs.Marks.{same-eq}
+use lib.ListN.{take, drop}
+use lib.Seq.{take-add, drop-drop}
+use Rattle.bytes.specs.declared.Endianness.the-variants.{Big}
+use Rattle.bytes.specs.Ascii.{ascii}
+use Rattle.bytes.specs.Number.{spelled}
+use Rattle.bytes.proofs.Marks.{same-eq}
 use Rattle.dna.specs.declared.dna.DnaCounts.{DnaCounts}
-use Rattle.blend.specs.declared.Header.{Header}
+use Rattle.header.specs.declared.Header.{Header}
 use Rattle.blend.specs.declared.Row.{Row}
 use Rattle.blend.specs.declared.blend.Last.{Last}
 use Rattle.blend.specs.declared.blend.Boundary.{Boundary}
-use Rattle.blend.specs.Blocks.{layout, blockHeaderLength, rowOf, payloadOf, boundaryOf}
-use Rattle.blend.proofs.Chains.{block-row, block-lies, header-long, mark-stands}
-use Rattle.blend.proofs.Layouts.{layout-length}
-use Rattle.blend.proofs.Rows.{row-headed, skip-room, payload-at}
-use Rattle.demands.specs.Cover.{Abut, part, told, blocksPart, blockHeaderPart, Block, Blocks}
-use Rattle.demands.proofs.Links.{Linked, no-mark, mark-ends}
-use Rattle.demands.proofs.Spelling.{code-spelt, numbers-spelt, part-part, spell-part}
-
--- a part that is in the file has its length
-part-long : (s : List ℕ) (at n : ℕ) → at + n ≤ length s → length (part s at n) ≡ n
-part-long s at n h = length-take-le n (drop at s) (omega (arith, length-drop at s))
+use Rattle.header.specs.Layout.{layout, blockHeaderLength}
+use Rattle.blend.specs.Blocks.{rowOf, payloadOf, boundaryOf}
+use Rattle.blend.proofs.Chains.{block-row, block-lies, mark-stands}
+use Rattle.header.proofs.Lengths.{header-at-least, layout-length}
+use Rattle.blend.proofs.Rows.{row-headed, payload-at}
+use Rattle.bytes.proofs.Parts.{part-long, skip-room, part-part}
+use Rattle.demands.specs.Cover.{Abut, blocksPart, blockHeaderPart, Block, Blocks}
+use Rattle.blend.specs.Spelling.{told}
+use Rattle.bytes.specs.Looks.{part}
+use Rattle.blend.proofs.Links.{Linked, no-mark, mark-ends}
+use Rattle.blend.proofs.Spelling.{code-spelt, numbers-spelt, spell-part}
 
 module _ (h : Header) (s : List ℕ) where
   abbrev long : ℕ
@@ -35,7 +35,7 @@ module _ (h : Header) (s : List ℕ) where
       let w = row-headed h s at r next (block-row h s at r l next e) in
       let k = skip-room (w .block .size) s (w .from) next (w .payload) in
       let f = payload-at h s at (w .block) (w .from) (w .header) in
-      let m = header-long (h .format) (h .«pointer_size») in
+      let m = header-at-least (h .format) (h .«pointer_size») in
       let z : at + 0 ≡ at = omega arith in
       subst (λ (q : Row). Block h s q) (sym (w .row))
       (record {

@@ -4,37 +4,39 @@ use mathlib.Core.List.{List, [], _∷_}
 use mathlib.Core.Path.{_≡_, refl, _∙_, ap}
 use native.Mathlib.Omega.{arith}
 use lib.ListN.{replicate}
-use Rattle.primitive.specs.declared.Endianness.{Endianness}
-use Rattle.primitive.specs.declared.Endianness.the-variants.{Little, Big}
-use Rattle.primitive.specs.declared.PointerSize.{PointerSize}
-use Rattle.primitive.specs.declared.PointerSize.the-variants.{Bits32, Bits64}
-use Rattle.primitive.specs.Ascii.{ascii}
-use Rattle.primitive.specs.Paper.Paper.{refuses}
-use Rattle.primitive.specs.Reader.{run, then, times}
-use Rattle.primitive.specs.Reader.Outcome.{read}
+use Rattle.bytes.specs.declared.Endianness.{Endianness}
+use Rattle.bytes.specs.declared.Endianness.the-variants.{Little, Big}
+use Rattle.bytes.specs.declared.PointerSize.{PointerSize}
+use Rattle.bytes.specs.declared.PointerSize.the-variants.{Bits32, Bits64}
+use Rattle.bytes.specs.Ascii.{ascii}
+use Rattle.bytes.specs.Paper.Paper.{refuses}
+use Rattle.bytes.specs.Reader.{run, then, times}
+use Rattle.bytes.specs.Reader.Outcome.{read}
 use Rattle.dna.specs.Catalogue.{catalogue, listed, strings, sized, struct, structured, fieldCount}
 use Rattle.field.specs.Declarators.{isFunction, taken, groups, spanned, digits, decimal, numbers, product, pointerOrValue, declared}
-use Rattle.blend.specs.declared.Header.{Header}
-use Rattle.blend.specs.declared.blend.HeaderAnswer.{HeaderAnswer}
+use Rattle.header.specs.declared.Header.{Header}
+use Rattle.header.specs.declared.blend.HeaderAnswer.{HeaderAnswer}
 use Rattle.blend.specs.declared.blend.BlendAnswer.{BlendAnswer}
 use Rattle.blend.specs.Blocks.{fields, blockHeader, kindOf, block, rowAt, finished, boundaryOf}
-use Rattle.blend.specs.Chain.{chain, chainFrom, fileBy, readAs, rowTable}
-use Rattle.blend.specs.Header.{decimal as versionDecimal, legacy, new, headerBytes, valued, headerAs}
-use Rattle.blend.proofs.Lossless.{wholeHeader}
-use Rattle.held.specs.Held.{rowsSpelt}
-use Rattle.blend.specs.declared.FileFormat.{FileFormat}
-use Rattle.blend.specs.declared.FileFormat.the-variants.{Legacy, New}
-use Rattle.blend.specs.Calls.{Answers, «blend::header», «blend::blend»}
+use Rattle.blend.specs.Chain.{chain, chainFrom, fileBy, readAs}
+use Rattle.blend.specs.Rows.{rowTable, rowsSpelt}
+use Rattle.header.specs.Header.{decimal as versionDecimal, legacy, new, headerBytes, valued, headerAs}
+use Rattle.header.proofs.Lossless.{whole-header}
+use Rattle.header.specs.declared.FileFormat.{FileFormat}
+use Rattle.header.specs.declared.FileFormat.the-variants.{Legacy, New}
+use Rattle.blend.specs.Calls.{Answers, «blend::blend»}
+use Rattle.header.specs.Calls.{«blend::header»}
 use Rattle.demands.specs.Answers.{rowsIn}
 use Rattle.demands.specs.Cover.{Covered}
 use Rattle.demands.specs.Examples.{AtTheEdges, scene, sound, changed, answer, before, after, sceneIn, answerIn, tableIn, ScenesAreRead}
 use Rattle.runtime.specs.Views.{partAs}
-use Rattle.demands.specs.Unaltered.{agree, Alike, Untouched, Stays}
+use Rattle.demands.specs.Unaltered.{agree, Alike, Stays}
+use Rattle.bytes.specs.Looks.{Untouched}
 use Rattle.demands.proofs.Cover.{every-block}
 use Rattle.demands.proofs.Unaltered.{no-other-object, agree-near, agree-alike}
 
 of-header : (s : List ℕ) (h : Header) (at : ℕ) → valued (run headerBytes s 0) ≡ read h at → (r : HeaderAnswer) → «blend::header» s r → r ≡ HeaderAnswer.Is h at
-of-header s h at e r w = wholeHeader r (HeaderAnswer.Is h at) (w ∙ ap headerAs e)
+of-header s h at e r w = whole-header r (HeaderAnswer.Is h at) (w ∙ ap headerAs e)
 
 in-legacy : Header
 in-legacy = record { «pointer_size» = Bits64; endianness = Little; version = record { major = 0; minor = 20 }; format = Legacy }

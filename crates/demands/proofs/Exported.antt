@@ -6,24 +6,24 @@ use mathlib.Core.Path.{_≡_, refl, sym, _∙_, ap, subst}
 use native.Mathlib.Omega.{arith}
 use lib.Dec.{ltb}
 use lib.ListN.{length}
-use Rattle.primitive.specs.declared.Endianness.{Endianness}
-use Rattle.primitive.specs.declared.Endianness.the-variants.{Little, Big}
-use Rattle.primitive.specs.declared.Fault.{Fault}
-use Rattle.primitive.specs.declared.Fault.the-variants.{Cut, Mark, Refusal}
-use Rattle.primitive.specs.Paper.{Paper}
-use Rattle.primitive.specs.Paper.Paper.{accepts, refuses}
-use Rattle.primitive.specs.Reader.{Outcome}
-use Rattle.primitive.specs.Reader.Outcome.{read, fault}
-use Rattle.primitive.specs.Refusals.{blockTableTooShort, paperFault}
-use Rattle.primitive.proofs.Refusing.{numberOf, fault-told}
-use Rattle.primitive.proofs.Tests.{held, failed}
+use Rattle.bytes.specs.declared.Endianness.{Endianness}
+use Rattle.bytes.specs.declared.Endianness.the-variants.{Little, Big}
+use Rattle.bytes.specs.declared.Fault.{Fault}
+use Rattle.bytes.specs.declared.Fault.the-variants.{Cut, Mark, Refusal}
+use Rattle.bytes.specs.Paper.{Paper}
+use Rattle.bytes.specs.Paper.Paper.{refuses}
+use Rattle.bytes.specs.Reader.{Outcome}
+use Rattle.bytes.specs.Reader.Outcome.{read, fault}
+use Rattle.bytes.specs.Refusals.{blockTableTooShort, paperFault}
+use Rattle.bytes.proofs.Refusing.{numberOf, fault-told}
+use Rattle.bytes.proofs.Tests.{held, failed}
 use Rattle.dna.specs.declared.dna.DnaCounts.{DnaCounts}
-use Rattle.blend.specs.declared.Header.{Header}
 use Rattle.blend.specs.declared.blend.RawBlend.{RawBlend}
 use Rattle.blend.specs.declared.blend.BlendAnswer.{BlendAnswer}
 use Rattle.blend.specs.Calls.{Answers}
-use Rattle.blend.specs.Chain.{Chain, File, fileBy, perRow, answerFor, readAs, paperBlend}
-use Rattle.blend.specs.Header.{headerBytes, order}
+use Rattle.blend.specs.Chain.{Chain, File, fileBy, answerFor, readAs, paperBlend}
+use Rattle.blend.specs.Rows.{perRow}
+use Rattle.header.specs.Header.{headerBytes, order}
 use Rattle.blend.proofs.Refusing.{header-told, file-told}
 use Rattle.exports.specs.declared.BlendRead.{BlendRead}
 use Rattle.exports.specs.Calls.{«blend_read»}

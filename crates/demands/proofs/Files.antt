@@ -4,14 +4,14 @@ use mathlib.Core.List.{List}
 use mathlib.Core.Path.{_≡_, refl, sym, _∙_, ap}
 use native.Mathlib.Omega.{arith}
 use lib.ListN.{length}
-use Rattle.primitive.specs.Reader.{Reader, Outcome, run}
-use Rattle.primitive.specs.Reader.Outcome.{read, fault}
-use Rattle.primitive.proofs.Extent.{ends-within}
+use Rattle.bytes.specs.Reader.{Reader, Outcome, run}
+use Rattle.bytes.specs.Reader.Outcome.{read, fault}
+use Rattle.bytes.proofs.Extent.{ends-within}
 use Rattle.dna.specs.declared.dna.DnaCounts.{DnaCounts}
 use Rattle.blend.specs.declared.blend.Last.{Last}
 use Rattle.blend.specs.Chain.{Chain, File, onHeader, fileBy, chainFrom}
-use Rattle.blend.specs.Header.{HeaderBytes, headerOf, valued}
-use Rattle.demands.proofs.Links.{Linked, linked}
+use Rattle.header.specs.Header.{HeaderBytes, headerOf, valued}
+use Rattle.blend.proofs.Links.{Linked, linked}
 
 pub record Filed (header : Reader HeaderBytes) (s : List ℕ) (f : File) (first : ℕ) : Type 0 where
   pub bytes : HeaderBytes

@@ -7,26 +7,30 @@ use native.Mathlib.Omega.{arith}
 use borrow.Author.Tests.{lt-leb, le-ltb}
 use lib.Dec.{leb, ltb, eqb}
 use lib.ListN.{length, getD}
-use Rattle.primitive.specs.Ascii.{ascii}
-use Rattle.primitive.specs.Reader.{Reader, Outcome, run, then, same, stands}
-use Rattle.primitive.specs.Reader.Reader.{done, refuse, skip}
-use Rattle.primitive.specs.Reader.Outcome.{read}
-use Rattle.primitive.proofs.Reading.{skipped}
+use Rattle.bytes.specs.Ascii.{ascii}
+use Rattle.bytes.specs.Reader.{Reader, Outcome, run, then, same, stands}
+use Rattle.bytes.specs.Reader.Reader.{done, refuse, skip}
+use Rattle.bytes.specs.Reader.Outcome.{read}
+use Rattle.bytes.proofs.Reading.{skipped}
 use Rattle.dna.specs.declared.dna.DnaCounts.{DnaCounts}
 use Rattle.dna.specs.Catalogue.{catalogue}
-use Rattle.blend.specs.declared.Header.{Header}
+use Rattle.header.specs.declared.Header.{Header}
 use Rattle.blend.specs.declared.BlockHeader.{BlockHeader}
 use Rattle.blend.specs.declared.Row.{Row}
 use Rattle.blend.specs.declared.Kind.{Kind}
 use Rattle.blend.specs.declared.blend.Last.{Last}
 use Rattle.blend.specs.declared.blend.Boundary.{Boundary}
-use Rattle.blend.specs.Blocks.{Field, Item, layout, blockHeaderLength, tested, fields, blockHeader, codeNumber, isPrincipal, kindOf, taken, block, rowed, rowAt, payloadOf, catalogued, isDna, finished, boundaryOf}
-use Rattle.blend.specs.Blocks.Field.{size, address, index, count}
-use Rattle.blend.proofs.Chains.{block-row, block-lies, header-long, mark-stands, mark-room}
-use Rattle.blend.proofs.Rows.{Lies, row-headed, by-code, on-payload, skip-room, payload-at, boundary-block, end-mark}
-use Rattle.demands.specs.Unaltered.{isOther, isFree, Untouched}
-use Rattle.demands.proofs.Links.{Linked, no-mark, mark-ends, linked-ends}
-use Rattle.demands.proofs.Own.{Sober, own, window}
+use Rattle.header.specs.Layout.{Field, Item, layout, blockHeaderLength}
+use Rattle.blend.specs.Blocks.{tested, fields, blockHeader, codeNumber, isPrincipal, kindOf, taken, block, rowed, rowAt, payloadOf, catalogued, isDna, finished, boundaryOf}
+use Rattle.header.specs.Layout.Field.{size, address, index, count}
+use Rattle.blend.proofs.Chains.{block-row, block-lies, mark-stands, mark-room}
+use Rattle.header.proofs.Lengths.{header-at-least}
+use Rattle.blend.proofs.Rows.{Lies, row-headed, by-code, on-payload, payload-at, boundary-block, end-mark}
+use Rattle.bytes.proofs.Parts.{skip-room}
+use Rattle.demands.specs.Unaltered.{isOther, isFree}
+use Rattle.bytes.specs.Looks.{Untouched}
+use Rattle.blend.proofs.Links.{Linked, no-mark, mark-ends, linked-ends}
+use Rattle.bytes.proofs.Own.{Sober, own, window}
 
 -- a block header's tree looks at its own bytes alone
 tested-sober : {A : Type 0} (f : Field) (n : ℕ) (r : Reader A) → Sober r → Sober (tested f n r)
@@ -162,7 +166,7 @@ module _ (h : Header) (s z : List ℕ) where
       → (isDna (kindOf (r .code)) ≡ true → payloadOf z r ≡ payloadOf s r) → boundaryOf h z at ≡ Boundary.Block r l next
   block-kept at r l next e u k p =
       let i = block-lies h s at r l next e in
-      let long = header-long (h .format) (h .«pointer_size») in
+      let long = header-at-least (h .format) (h .«pointer_size») in
       let g = block-row h s at r l next e in
       let f = no-mark h s at r l next e in
       let m : at + 4 ≤ length s = omega (arith, i .header, i .payload, i .inside, long) in

@@ -1,8 +1,5 @@
 -- The proofs of the demands.
-pub mod Own
 pub mod HeaderTrees
-pub mod Links
-pub mod Spelling
 pub mod Covering
 pub mod Accepted
 pub mod Files

@@ -1,44 +1,42 @@
 -- Document 01's sentences, from the laws beside the rules that they are about.
-use Prim.Native.Nat.{ℕ, _+_, _*_, _/_, _^_, _<_}
+use Prim.Native.Nat.{ℕ, _/_}
 use mathlib.Core.Bool.{Bool, true, false}
 use mathlib.Core.List.{List, [], _∷_}
 use mathlib.Core.Path.{_≡_, refl, sym, _∙_, ap, subst}
-use denote.Ref.{RefT, now}
+use denote.Ref.{now}
 use native.Mathlib.Omega.{arith}
 use lib.Dec.{ltb}
 use lib.Ieee.{Format, binary32, binary64, nanBits, ofBits}
 use lib.ListN.{length, take}
-use Rattle.primitive.specs.declared.Endianness.{Endianness}
-use Rattle.primitive.specs.declared.Endianness.the-variants.{Big}
-use Rattle.primitive.specs.declared.Fault.{Fault}
+use Rattle.bytes.specs.declared.Endianness.{Endianness}
+use Rattle.bytes.specs.declared.Endianness.the-variants.{Big}
+use Rattle.bytes.specs.declared.Fault.{Fault}
 use Rattle.primitive.specs.declared.primitive.Name.{Name}
-use Rattle.primitive.specs.Ascii.{ascii}
-use Rattle.primitive.specs.Paper.{Paper}
-use Rattle.primitive.specs.Paper.Paper.{accepts, integer, real, refuses}
-use Rattle.primitive.specs.Number.{spelled}
+use Rattle.bytes.specs.Ascii.{ascii}
+use Rattle.bytes.specs.Paper.{Paper}
+use Rattle.bytes.specs.Paper.Paper.{accepts, real, refuses}
+use Rattle.bytes.specs.Number.{spelled}
 use Rattle.primitive.specs.Primitive.{valueOf, float, named}
-use Rattle.primitive.specs.Reader.{Outcome}
-use Rattle.primitive.specs.Reader.Outcome.{read, fault}
-use Rattle.primitive.specs.Refusals.{blockTableTooShort, paperFault}
-use Rattle.primitive.proofs.Refusing.{numberOf, fault-told}
-use Rattle.primitive.proofs.Tests.{held, failed}
+use Rattle.bytes.specs.Reader.{Outcome}
+use Rattle.bytes.specs.Reader.Outcome.{read, fault}
+use Rattle.bytes.specs.Refusals.{blockTableTooShort, paperFault}
+use Rattle.bytes.proofs.Refusing.{numberOf, fault-told}
+use Rattle.bytes.proofs.Tests.{held, failed}
 use Rattle.primitive.proofs.Values.{float-bits}
 use Rattle.dna.specs.declared.dna.DnaCounts.{DnaCounts}
 use Rattle.blend.specs.declared.Kind.{Kind}
 use Rattle.blend.specs.declared.Row.{Row}
 use Rattle.blend.specs.declared.blend.BlendAnswer.{BlendAnswer}
 use Rattle.blend.specs.Blocks.{kindOf}
-use Rattle.blend.specs.Calls.{Answers}
-use Rattle.blend.specs.Chain.{File, fileBy, perRow, answerFor, readAs, rowsOf, paperBlend}
-use Rattle.blend.specs.Header.{headerBytes}
-use Rattle.blend.specs.Walker.{Stepped, start, Stop, Walk}
-use Rattle.blend.specs.Walker.Stop.{ended, refused}
-use Rattle.blend.proofs.Walks.{stopOf, stopBy, walks}
-use Rattle.runtime.specs.declared.runtime.BlockCode.{BlockCode}
-use Rattle.runtime.specs.Addresses.{fourBytes, hasCode, codeAs, paperCode}
+use Rattle.blend.specs.Chain.{File, fileBy, answerFor, readAs, rowsOf, paperBlend}
+use Rattle.blend.specs.Rows.{perRow}
+use Rattle.header.specs.Header.{headerBytes}
+use Rattle.walker.specs.Walker.{Stepped, start, Stop, Walk}
+use Rattle.walker.specs.Walker.Stop.{ended, refused}
+use Rattle.walker.proofs.Walks.{stopOf, stopBy, walks}
+use Rattle.runtime.specs.Addresses.{hasCode, codeAs, paperCode}
 use Rattle.runtime.proofs.Codes.{four-bytes}
-use Rattle.runtime.proofs.Lossless.{wholePointer, wholeCode}
-use Rattle.held.specs.declared.Walker.{Walker}
+use Rattle.runtime.proofs.Lossless.{whole-pointer, whole-code}
 use Rattle.held.proofs.Same.{same, same-rows}
 use Rattle.demands.specs.Answers.{rowsIn}
 use Rattle.demands.specs.Sentences.{WalksAsRead, HeldWalksAsRead, OneSearch, FloatBits, codeOf, CodeBytes, Spells, Names}
@@ -120,8 +118,8 @@ held-walks-as-read file v o t t′ (BlendAnswer.TableTooShort n) w =
 pub one-search : OneSearch
 one-search =
     record {
-      of-table = λ t n address r q x y. wholePointer r q (x ∙ same t n address ∙ sym y);
-      of-rows = λ rows n address r q x y. wholePointer r q (x ∙ same-rows rows n address ∙ sym y);
+      of-table = λ t n address r q x y. whole-pointer r q (x ∙ same t n address ∙ sym y);
+      of-rows = λ rows n address r q x y. whole-pointer r q (x ∙ same-rows rows n address ∙ sym y);
     }
 
 -- a NaN's bits are those that were read
@@ -167,7 +165,7 @@ unfolding codeAs
 code-bytes a b c d ha hb hc hd r h =
     let k = kindOf (spelled Big (a ∷ b ∷ c ∷ d ∷ [])) in
     let e = ap {B = Paper} (λ (l : List ℕ). elim (hasCode k) as (λ (x : Bool). Paper) [ true ↦ accepts 0 l | false ↦ accepts 1 [] ]) (four-bytes a b c d ha hb hc hd) in
-    wholeCode r (codeOf k a b c d) (h ∙ e ∙ code-told k a b c d)
+    whole-code r (codeOf k a b c d) (h ∙ e ∙ code-told k a b c d)
 
 spells : (name : List ℕ) → take (named name .len) (named name .bytes) ≡ name → Spells (λ r. r ≡ named name) name
 spells name e r h = ap (λ (x : Name). take (x .len) (x .bytes)) h ∙ e

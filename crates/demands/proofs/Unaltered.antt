@@ -7,38 +7,39 @@ use native.Mathlib.Omega.{arith}
 use borrow.Author.Tests.{le-leb, lt-ltb, eqb-true, eqb-false}
 use lib.Dec.{eqb}
 use lib.ListN.{length, getD, take, drop, length-append, length-drop}
-use Rattle.primitive.specs.declared.Endianness.{Endianness}
-use Rattle.primitive.specs.Paper.{Paper}
-use Rattle.primitive.specs.Paper.Paper.{accepts, integer, real, refuses}
-use Rattle.primitive.specs.Reader.{Reader, Outcome, run, room}
-use Rattle.primitive.specs.Reader.Outcome.{read}
-use Rattle.primitive.specs.Tables.{over, written}
-use Rattle.primitive.proofs.Tests.{held}
+use Rattle.bytes.specs.declared.Endianness.{Endianness}
+use Rattle.bytes.specs.Paper.{Paper}
+use Rattle.bytes.specs.Paper.Paper.{accepts, integer, real, refuses}
+use Rattle.bytes.specs.Reader.{Reader, Outcome, run, room}
+use Rattle.bytes.specs.Reader.Outcome.{read}
+use Rattle.bytes.specs.Tables.{over, written}
+use Rattle.bytes.proofs.Tests.{held}
 use Rattle.dna.specs.declared.dna.DnaCounts.{DnaCounts}
 use Rattle.dna.specs.Catalogue.{Dna, rooms, catalogue, readAs as catalogueAs, rowsOf as catalogueRows, pairs, typeRows, structRows, fieldRows}
-use Rattle.dna.proofs.Lossless.{wholeTables}
-use Rattle.blend.specs.declared.Header.{Header}
+use Rattle.dna.proofs.Lossless.{whole-tables}
+use Rattle.header.specs.declared.Header.{Header}
 use Rattle.blend.specs.declared.Row.{Row}
 use Rattle.blend.specs.declared.blend.Last.{Last}
 use Rattle.blend.specs.declared.blend.RawBlend.{RawBlend}
 use Rattle.blend.specs.declared.blend.BlendAnswer.{BlendAnswer}
 use Rattle.blend.specs.Blocks.{codeNumber, kindOf, isDna, payloadOf}
 use Rattle.blend.specs.Calls.{Answers}
-use Rattle.blend.specs.Chain.{Chain, File, chain, chainFrom, onHeader, fileBy, perRow, rowTable, readAs, tableAfter}
-use Rattle.blend.specs.Header.{HeaderBytes, headerBytes, valued}
-use Rattle.runtime.specs.Views.{cell, isThere, viewAs, partAs}
-use Rattle.blend.proofs.Chains.{table-length, block-lies}
-use Rattle.blend.proofs.Lossless.{wholeBlend}
-use Rattle.held.specs.Held.{none, rowSpelt}
-use Rattle.held.proofs.Same.{row-at}
+use Rattle.blend.specs.Chain.{Chain, File, chain, chainFrom, onHeader, fileBy, readAs, tableAfter}
+use Rattle.blend.specs.Rows.{Column, perRow, rowTable, cell, none, rowSpelt}
+use Rattle.header.specs.Header.{HeaderBytes, headerBytes, valued}
+use Rattle.runtime.specs.Views.{isThere, viewAs, partAs}
+use Rattle.blend.proofs.Tables.{table-length, row-at}
+use Rattle.blend.proofs.Chains.{block-lies}
+use Rattle.blend.proofs.Lossless.{whole-blend}
 use Rattle.demands.specs.Answers.{HeaderTree, rowsIn}
-use Rattle.demands.specs.Unaltered.{NoOtherObject, NoOtherObjectBy, isFree, Alike, agree, Untouched, WroteSame, SameCatalogue, Stays}
+use Rattle.demands.specs.Unaltered.{NoOtherObject, NoOtherObjectBy, isFree, Alike, agree, WroteSame, SameCatalogue, Stays}
+use Rattle.bytes.specs.Looks.{Untouched}
 use Rattle.demands.proofs.Accepted.{Accepted, accepted}
 use Rattle.demands.proofs.Files.{Filed, filed, file-linked, first-inside}
-use Rattle.demands.proofs.HeaderTrees.{headerTree}
+use Rattle.demands.proofs.HeaderTrees.{header-tree}
 use Rattle.demands.proofs.Kept.{none-before, Near, kept, dna-near, rest-near}
-use Rattle.demands.proofs.Links.{Linked, chained, linked-ends}
-use Rattle.demands.proofs.Own.{window}
+use Rattle.blend.proofs.Links.{Linked, chained, linked-ends}
+use Rattle.bytes.proofs.Own.{window}
 
 -- a row by its number: its payload lies before the end, and a DNA1's is the same in both files
 module _ (h : Header) (s : List ℕ) where
@@ -58,7 +59,7 @@ module _ (h : Header) (s : List ℕ) where
 -- what a view shows of a row that is there
 module _ (s t : List ℕ) (row : ℕ) (k : row < length t / perRow) (m : rowSpelt t row .payload + rowSpelt t row .len ≤ length s) where
   there : isThere s t row ≡ true
-  there = ap (λ (b : Bool). b && room s (cell t row 5) (cell t row 6)) (lt-ltb _ _ k) ∙ le-leb _ _ m
+  there = ap (λ (b : Bool). b && room s (cell t row Column.payload) (cell t row Column.len)) (lt-ltb _ _ k) ∙ le-leb _ _ m
 
   view-there : viewAs s t row ≡ accepts 0 []
   unfolding viewAs
@@ -97,7 +98,7 @@ same-catalogue e p q same n t s f n′ t′ s′ f′ m u v g m′ u′ v′ g�
       el ∙ written-over _ _ l,
       ek ∙ ap (λ (w : Paper). written w (catalogueRows rows (run (catalogue e) q 0)) k) told ∙ ap (λ (w : Outcome Dna). written (catalogueAs o r) (catalogueRows rows w) k) eo ∙ written-over _ _ k,
     ) in (
-      wholeTables c a (y .answer ∙ told ∙ sym (x .answer)),
+      whole-tables c a (y .answer ∙ told ∙ sym (x .answer)),
       both (λ d. pairs (d .names)) n n′ m m′ (x .in-names) (y .in-names),
       both (λ d. typeRows (d .types) (d .sizes)) t t′ u u′ (x .in-types) (y .in-types),
       both (λ d. structRows 0 (d .structs)) s s′ v v′ (x .in-structs) (y .in-structs),
@@ -173,7 +174,7 @@ module _ (header : Reader HeaderBytes) (tree : HeaderTree header) (s t t′ : Li
 
   answer : c ≡ BlendAnswer.Is b
   answer =
-      wholeBlend c (BlendAnswer.Is b)
+      whole-blend c (BlendAnswer.Is b)
       (x .0 ∙ ap (λ (o : Outcome File). readAs o (length u / perRow)) same ∙ ap (λ (n : ℕ). readAs (fileBy header s) (n / perRow)) long ∙ sym (w .0))
 
   two : Accepted (fileBy header s) u u′ b
@@ -209,14 +210,14 @@ module _ (header : Reader HeaderBytes) (tree : HeaderTree header) (s t t′ : Li
         part-there z u′ row (row-there (fileBy header s) u u′ b two row k) in-second ∙ ap (payloadOf z) spelt ∙ e
         ∙ sym (part-there s t′ row (row-there (fileBy header s) t t′ b one row k) in-first)
 
-    views : (viewAs s t′ row ≡ accepts 0 []) × (viewAs z u′ row ≡ accepts 0 []) × (Untouched s z (cell t′ row 5) (cell t′ row 5 + cell t′ row 6) → partAs z u′ row ≡ partAs s t′ row)
+    views : (viewAs s t′ row ≡ accepts 0 []) × (viewAs z u′ row ≡ accepts 0 []) × (Untouched s z (cell t′ row Column.payload) (cell t′ row Column.payload + cell t′ row Column.len) → partAs z u′ row ≡ partAs s t′ row)
     views = (
       view-there s t′ row (row-there (fileBy header s) t t′ b one row k) in-first,
       view-there z u′ row (row-there (fileBy header s) u u′ b two row k) in-second,
-      λ v. shown (window s z (cell t′ row 5) (cell t′ row 6) in-first (omega (arith, before, alike .long)) v),
+      λ v. shown (window s z (cell t′ row Column.payload) (cell t′ row Column.len) in-first (omega (arith, before, alike .long)) v),
     )
 
-    dna-shown : cell t′ row 0 ≡ codeNumber "DNA1" → partAs z u′ row ≡ partAs s t′ row
+    dna-shown : cell t′ row Column.code ≡ codeNumber "DNA1" → partAs z u′ row ≡ partAs s t′ row
     unfolding kindOf
     dna-shown d =
         let e = row-spelt (fileBy header s) t t′ b one row k in
@@ -244,7 +245,7 @@ unaltered header tree s t t′ (BlendAnswer.Refused n) w z u u′ c x = tt
 unaltered header tree s t t′ (BlendAnswer.TableTooShort n) w z u u′ c x = tt
 
 pub no-other-object : NoOtherObject
-no-other-object = unaltered headerBytes headerTree
+no-other-object = unaltered headerBytes header-tree
 
 -- bytes that the test finds alike are alike
 pub agree-near : (rows : List Row) (s z : List ℕ) (at n : ℕ) → agree rows s z at n ≡ true → (i : ℕ) → at ≤ i → i < at + n → isFree rows i ≡ false → getD z i 0 ≡ getD s i 0

@@ -1,38 +1,37 @@
 -- The demands of the walker, in both its forms: a walk from the start to the end mark has the rows of the file that the rules read, since there is no other walk.
 use Prim.Native.Nat.{ℕ, _+_, _<_, _≤_}
 use mathlib.Core.Bool.{true}
-use mathlib.Core.List.{List, []}
+use mathlib.Core.List.{List}
 use mathlib.Core.Path.{_≡_, refl, sym, _∙_, ap, subst}
 use denote.Ref.{RefT, now}
 use native.Mathlib.Omega.{arith}
 use lib.ListN.{length, getD}
-use Rattle.primitive.specs.Reader.{Outcome, run}
-use Rattle.primitive.specs.Reader.Outcome.{read, fault}
+use Rattle.bytes.specs.Reader.{Outcome, run}
+use Rattle.bytes.specs.Reader.Outcome.{read, fault}
 use Rattle.dna.specs.declared.dna.DnaCounts.{DnaCounts}
-use Rattle.blend.specs.declared.Header.{Header}
+use Rattle.header.specs.declared.Header.{Header}
 use Rattle.blend.specs.declared.Row.{Row}
-use Rattle.blend.specs.declared.blend.HeaderAnswer.{HeaderAnswer}
 use Rattle.blend.specs.declared.blend.Last.{Last}
-use Rattle.blend.specs.declared.walker.Place.{Place}
+use Rattle.walker.specs.declared.Place.{Place}
 use Rattle.blend.specs.Blocks.{codeNumber, kindOf, isDna, payloadOf}
-use Rattle.blend.specs.Calls.{«blend::header»}
 use Rattle.blend.specs.Chain.{File, fileBy, rowsOf}
-use Rattle.blend.specs.Header.{headerLength, headerBytes, valued, headerAs}
-use Rattle.blend.specs.Walker.{Stepped, start, Stop, Walk}
-use Rattle.blend.specs.Walker.Stop.{ended}
-use Rattle.blend.proofs.Walks.{stopOf, stopBy, walks, one-walk}
+use Rattle.header.specs.Header.{headerLength, headerBytes, valued, headerAs}
+use Rattle.walker.specs.Walker.{Stepped, start, Stop, Walk}
+use Rattle.walker.specs.Walker.Stop.{ended}
+use Rattle.walker.proofs.Walks.{stopOf, stopBy, walks, one-walk}
 use Rattle.held.specs.declared.Walker.{Walker}
 use Rattle.held.specs.Calls as held
-use Rattle.held.specs.Held.{none}
+use Rattle.blend.specs.Rows.{none}
 use Rattle.held.specs.Walks.{HeldWalk}
 use Rattle.held.proofs.Walks.{plain-walk, held-walk}
-use Rattle.demands.specs.Cover.{Covered, CoveredFile, EveryBlockWalked, EveryBlockHeld}
-use Rattle.demands.specs.Unaltered.{Alike, Untouched, WalksOn, NoOtherObjectWalked, NoOtherObjectHeld}
+use Rattle.demands.specs.Cover.{Covered, EveryBlockWalked, EveryBlockHeld}
+use Rattle.demands.specs.Unaltered.{Alike, WalksOn, NoOtherObjectWalked, NoOtherObjectHeld}
+use Rattle.bytes.specs.Looks.{Untouched}
 use Rattle.demands.proofs.Cover.{covered}
 use Rattle.demands.proofs.Files.{filed}
-use Rattle.demands.proofs.HeaderTrees.{headerTree}
-use Rattle.demands.proofs.Links.{linked-ends}
-use Rattle.demands.proofs.Own.{window}
+use Rattle.demands.proofs.HeaderTrees.{header-tree}
+use Rattle.blend.proofs.Links.{linked-ends}
+use Rattle.bytes.proofs.Own.{window}
 use Rattle.demands.proofs.Unaltered.{payload-before, dna-kept, links, near, header-kept, file-kept}
 
 -- the file that was walked, as the rules read it
@@ -71,10 +70,10 @@ every-block-walked s rows end w =
     let d = filed headerBytes s f (x .first) (x .found) in
     let h = f .header in
     let v : valued (run headerBytes s 0) ≡ read h (x .first) = ap valued (d .found) ∙ ap (λ (k : Header). read k (x .first)) (sym (d .value)) in
-    let m : x .first ≡ headerLength (h .format) = headerTree .long s (d .bytes) (x .first) (d .found) ∙ ap (λ (k : Header). headerLength (k .format)) (sym (d .value)) in (
+    let m : x .first ≡ headerLength (h .format) = header-tree .long s (d .bytes) (x .first) (d .found) ∙ ap (λ (k : Header). headerLength (k .format)) (sym (d .value)) in (
       h,
       ap (λ (i : ℕ). headerAs (read h i)) (sym m) ∙ ap headerAs (sym v),
-      subst (λ (rs : List Row). Covered headerBytes s h rs end) (x .same) (covered headerBytes headerTree s f (x .first) (x .counts) end (x .found) (x .last)),
+      subst (λ (rs : List Row). Covered headerBytes s h rs end) (x .same) (covered headerBytes header-tree s f (x .first) (x .counts) end (x .found) (x .last)),
     )
 
 -- a walker that was just made over a file walks as a place at the start of the file does, and the other way round
@@ -105,7 +104,7 @@ module _ (s : List ℕ) (rows : List Row) (end : ℕ) (w : Walk (Stepped headerB
 
   again : Walk (Stepped headerBytes z) start rows (ended end)
   again =
-      let e : fileBy headerBytes z ≡ read f (x .first) = file-kept headerBytes headerTree s z f (x .first) (x .counts) end (x .found) (x .last) like in
+      let e : fileBy headerBytes z ≡ read f (x .first) = file-kept headerBytes header-tree s z f (x .first) (x .counts) end (x .found) (x .last) like in
       let a = subst (λ (o : Outcome File). Walk (Stepped headerBytes z) start (rowsOf o) (stopBy o)) e (walks headerBytes z) in
       let b = subst (λ (o : Outcome DnaCounts). Walk (Stepped headerBytes z) start (f .chain .rows) (stopOf o)) (x .last) a in
       subst (λ (rs : List Row). Walk (Stepped headerBytes z) start rs (ended end)) (x .same) b
@@ -113,7 +112,7 @@ module _ (s : List ℕ) (rows : List Row) (end : ℕ) (w : Walk (Stepped headerB
   same-header : valued (run headerBytes z 0) ≡ valued (run headerBytes s 0)
   same-header =
       let d = filed headerBytes s f (x .first) (x .found) in
-      header-kept headerBytes headerTree s z f (x .first) (x .counts) end (x .found) (x .last) like
+      header-kept headerBytes header-tree s z f (x .first) (x .counts) end (x .found) (x .last) like
       ∙ sym (ap valued (d .found) ∙ ap (λ (k : Header). read k (x .first)) (sym (d .value)))
 
   module _ (i : ℕ) (k : i < length rows) where
@@ -121,10 +120,10 @@ module _ (s : List ℕ) (rows : List Row) (end : ℕ) (w : Walk (Stepped headerB
     there = rw (x .same) k
 
     before : getD (f .chain .rows) i none .payload + getD (f .chain .rows) i none .len ≤ end
-    before = payload-before (f .header) s (f .chain .rows) (x .first) Last.Other (x .counts) end (links headerBytes headerTree s z f (x .first) (x .counts) end (x .found) (x .last) like) i there
+    before = payload-before (f .header) s (f .chain .rows) (x .first) Last.Other (x .counts) end (links headerBytes header-tree s z f (x .first) (x .counts) end (x .found) (x .last) like) i there
 
     inside : end ≤ length s
-    inside = linked-ends (f .header) s (f .chain .rows) (x .first) Last.Other (x .counts) end (links headerBytes headerTree s z f (x .first) (x .counts) end (x .found) (x .last) like) .1
+    inside = linked-ends (f .header) s (f .chain .rows) (x .first) Last.Other (x .counts) end (links headerBytes header-tree s z f (x .first) (x .counts) end (x .found) (x .last) like) .1
 
     payload : Untouched s z (getD rows i none .payload) (getD rows i none .payload + getD rows i none .len) → payloadOf z (getD rows i none) ≡ payloadOf s (getD rows i none)
     payload u =
@@ -136,8 +135,8 @@ module _ (s : List ℕ) (rows : List Row) (end : ℕ) (w : Walk (Stepped headerB
     catalogue d =
         let q : isDna (kindOf (getD (f .chain .rows) i none .code)) ≡ true = ap (λ (rs : List Row). isDna (kindOf (getD rs i none .code))) (x .same) ∙ ap (λ (n : ℕ). isDna (kindOf n)) d in
         subst (λ (rs : List Row). payloadOf z (getD rs i none) ≡ payloadOf s (getD rs i none)) (x .same)
-        (dna-kept (f .header) s z (f .chain .rows) (x .first) Last.Other (x .counts) end (links headerBytes headerTree s z f (x .first) (x .counts) end (x .found) (x .last) like)
-        (like .long) (near headerBytes headerTree s z f (x .first) (x .counts) end (x .found) (x .last) like) i there q)
+        (dna-kept (f .header) s z (f .chain .rows) (x .first) Last.Other (x .counts) end (links headerBytes header-tree s z f (x .first) (x .counts) end (x .found) (x .last) like)
+        (like .long) (near headerBytes header-tree s z f (x .first) (x .counts) end (x .found) (x .last) like) i there q)
 
   walks-on : WalksOn s rows z
   walks-on = record { header = λ h at e. e ∙ ap headerAs (sym same-header); payloads = payload; catalogues = catalogue }

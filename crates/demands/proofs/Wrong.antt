@@ -4,14 +4,14 @@ use mathlib.Core.List.{List, [], _∷_}
 use mathlib.Core.Path.{_≡_, refl, ap}
 use native.Mathlib.Omega.{arith}
 use lib.ListN.{length}
-use Rattle.primitive.specs.Reader.{run, then, times}
+use Rattle.bytes.specs.Reader.{run, then, times}
 use Rattle.dna.specs.Catalogue.{catalogue, listed, strings, sized, struct, structured, fieldCount}
 use Rattle.blend.specs.declared.blend.RawBlend.{RawBlend}
 use Rattle.blend.specs.declared.blend.BlendAnswer.{BlendAnswer}
 use Rattle.blend.specs.Blocks.{fields, blockHeader, kindOf, block, rowAt, finished, boundaryOf}
-use Rattle.blend.specs.Chain.{chain, chainFrom, readAs, rowTable}
-use Rattle.blend.specs.Header.{decimal as versionDecimal, legacy, new, headerBytes}
-use Rattle.held.specs.Held.{rowsSpelt}
+use Rattle.blend.specs.Chain.{chain, chainFrom, readAs}
+use Rattle.blend.specs.Rows.{rowTable, rowsSpelt}
+use Rattle.header.specs.Header.{decimal as versionDecimal, legacy, new, headerBytes}
 use Rattle.blend.specs.Calls.{Answers}
 use Rattle.demands.specs.Cover.{blocksPart, Cover}
 use Rattle.demands.specs.Examples.{scene, sound, changed, answer, before, after}

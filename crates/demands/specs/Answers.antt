@@ -4,13 +4,13 @@ use Prim.Native.Nat.{ℕ}
 use mathlib.Core.List.{List}
 use mathlib.Core.Path.{_≡_}
 use lib.ListN.{take}
-use Rattle.primitive.specs.Reader.{Reader, run}
-use Rattle.primitive.specs.Reader.Outcome.{read}
+use Rattle.bytes.specs.Reader.{Reader, run}
+use Rattle.bytes.specs.Reader.Outcome.{read}
 use Rattle.blend.specs.declared.Row.{Row}
-use Rattle.blend.specs.Header.{HeaderBytes, headerLength}
-use Rattle.held.specs.Held.{rowsSpelt}
+use Rattle.header.specs.Header.{HeaderBytes, headerLength}
+use Rattle.blend.specs.Rows.{rowsSpelt}
 
--- the first n rows that a table holds, each with its seven numbers
+-- the first n rows that a table holds
 abbrev pub rowsIn : List ℕ → ℕ → List Row
 rowsIn t n = rowsSpelt t n 0
 

@@ -1,9 +1,9 @@
--- What each public call promises, by its name (crates/primitive/specs/Calls.antt says how to read it): the reader's contract, and with it the demand.
+-- What each public call promises, by its name (crates/bytes/specs/Calls.antt says how to read it): the reader's contract, and with it the demand.
 use Prim.Native.Nat.{ℕ}
 use mathlib.Core.List.{List}
 use Rattle.blend.specs.declared.blend.BlendAnswer.{BlendAnswer}
 use Rattle.blend.specs.Calls.{«blend::blend»}
-use Rattle.blend.specs.Header.{headerBytes}
+use Rattle.header.specs.Header.{headerBytes}
 use Rattle.demands.specs.declared.Two.{Two}
 use Rattle.demands.specs.Cover.{CoveredBy}
 use Rattle.demands.specs.Unaltered.{UnalteredBy}

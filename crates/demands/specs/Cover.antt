@@ -4,35 +4,34 @@ use mathlib.Core.Bool.{false}
 use mathlib.Core.List.{List, [], _∷_, _++_}
 use mathlib.Core.Path.{_≡_}
 use denote.Ref.{RefT, now}
-use lib.ListN.{length, take, drop}
-use Rattle.primitive.specs.declared.Endianness.the-variants.{Big}
-use Rattle.primitive.specs.Ascii.{ascii}
-use Rattle.primitive.specs.Number.{spelled}
-use Rattle.primitive.specs.PointerSize.{pointerBytes}
-use Rattle.primitive.specs.Reader.{Reader, Outcome, run, stands}
-use Rattle.primitive.specs.Reader.Outcome.{read}
-use Rattle.blend.specs.declared.Header.{Header}
+use lib.ListN.{length, take}
+use Rattle.blend.specs.Spelling.{told, Spell}
+use Rattle.bytes.specs.Looks.{part}
+use Rattle.bytes.specs.declared.Endianness.the-variants.{Big}
+use Rattle.bytes.specs.Ascii.{ascii}
+use Rattle.bytes.specs.Number.{spelled}
+use Rattle.bytes.specs.PointerSize.{pointerBytes}
+use Rattle.bytes.specs.Reader.{Reader, Outcome, run, stands}
+use Rattle.bytes.specs.Reader.Outcome.{read}
+use Rattle.header.specs.declared.Header.{Header}
 use Rattle.blend.specs.declared.Row.{Row}
-use Rattle.blend.specs.declared.blend.HeaderAnswer.{HeaderAnswer}
+use Rattle.header.specs.declared.blend.HeaderAnswer.{HeaderAnswer}
 use Rattle.blend.specs.declared.blend.BlendAnswer.{BlendAnswer}
-use Rattle.blend.specs.Header.{HeaderBytes, headerLength, headerBytes, valued, edition, order}
-use Rattle.blend.specs.Blocks.{Field, Item, layout, blockHeaderLength, payloadOf}
-use Rattle.blend.specs.Blocks.Field.{size, address, index, count}
-use Rattle.blend.specs.Calls.{Answers, «blend::header», «walker::Place::step»}
-use Rattle.blend.specs.Chain.{File}
-use Rattle.blend.specs.Chain.{fileBy}
-use Rattle.blend.specs.Walker.{start, Walk}
-use Rattle.blend.specs.Walker.Stop.{ended}
+use Rattle.header.specs.Header.{HeaderBytes, headerLength, headerBytes, valued, edition, order}
+use Rattle.header.specs.Layout.{layout, blockHeaderLength}
+use Rattle.blend.specs.Blocks.{payloadOf}
+use Rattle.blend.specs.Calls.{Answers}
+use Rattle.header.specs.Calls.{«blend::header»}
+use Rattle.walker.specs.Calls.{«Place::step»}
+use Rattle.blend.specs.Chain.{File, fileBy}
+use Rattle.walker.specs.Walker.{start, Walk}
+use Rattle.walker.specs.Walker.Stop.{ended}
 use Rattle.held.specs.declared.Walker.{Walker}
 use Rattle.held.specs.Calls as held
 use Rattle.held.specs.Walks.{HeldWalk}
 use Rattle.exports.specs.declared.BlendRead.{BlendRead}
 use Rattle.exports.specs.Calls.{«blend_read»}
 use Rattle.demands.specs.Answers.{HeaderTree, rowsIn}
-
--- n bytes from a place
-abbrev pub part : List ℕ → ℕ → ℕ → List ℕ
-part s at n = take n (drop at s)
 
 -- the bytes of the file's header, and of a row's block header
 abbrev pub headerPart : Header → List ℕ → List ℕ
@@ -45,18 +44,6 @@ blockHeaderPart h s r = part s (r .at) (blockHeaderLength (h .format) (h .«poin
 unfoldable pub blocksPart : Header → List ℕ → List Row → List ℕ
 blocksPart h s [] = []
 blocksPart h s (r ∷ rs) = blockHeaderPart h s r ++ (payloadOf s r ++ blocksPart h s rs)
-
--- the number of a row that a field of its block header tells
-abbrev pub told : Row → Field → ℕ
-told r size = r .len
-told r address = r .address
-told r index = r .index
-told r count = r .count
-
--- the bytes from `at` spell these numbers one after another, each in its width and order
-abbrev pub Spell : List Item → (Field → ℕ) → List ℕ → ℕ → Type 0
-Spell [] number bs at = Unit {0}
-Spell (i ∷ is) number bs at = (spelled (i .order) (part bs at (i .width)) ≡ number (i .field)) × Spell is number bs (at + i .width)
 
 -- A block: no end mark stands where it begins; its header has the length of its edition and pointer size, and spells the row's code, and size, address, index and
 -- count; the payload follows it, and has the row's length.
@@ -117,7 +104,7 @@ abbrev pub CoveredFile : List ℕ → List Row → ℕ → Type 0
 CoveredFile s rows end = (h : Header) × («blend::header» s (HeaderAnswer.Is h (headerLength (h .format)))) × Covered headerBytes s h rows end
 
 abbrev pub EveryBlockWalked : Type 0
-EveryBlockWalked = (s : List ℕ) (rows : List Row) (end : ℕ) → Walk (λ p r. «walker::Place::step» p s r) start rows (ended end) → CoveredFile s rows end
+EveryBlockWalked = (s : List ℕ) (rows : List Row) (end : ℕ) → Walk (λ p r. «Place::step» p s r) start rows (ended end) → CoveredFile s rows end
 
 abbrev pub EveryBlockHeld : Type 0
 EveryBlockHeld = (file : RefT (List ℕ)) (w : Walker) (rows : List Row) (end : ℕ) → held.over file w → HeldWalk w rows (ended end) → CoveredFile (now file) rows end

@@ -3,25 +3,26 @@ use Prim.Native.Nat.{ℕ, _+_, _-_}
 use mathlib.Core.List.{List, [], _∷_, _++_}
 use mathlib.Core.Path.{_≡_}
 use lib.ListN.{replicate}
-use Rattle.primitive.specs.declared.Endianness.{Endianness}
-use Rattle.primitive.specs.declared.Endianness.the-variants.{Little, Big}
-use Rattle.primitive.specs.declared.PointerSize.{PointerSize}
-use Rattle.primitive.specs.declared.PointerSize.the-variants.{Bits32, Bits64}
-use Rattle.primitive.specs.Ascii.{ascii}
-use Rattle.primitive.specs.Paper.{Paper}
-use Rattle.primitive.specs.Paper.Paper.{refuses}
-use Rattle.primitive.specs.Tables.{over}
+use Rattle.bytes.specs.declared.Endianness.{Endianness}
+use Rattle.bytes.specs.declared.Endianness.the-variants.{Little, Big}
+use Rattle.bytes.specs.declared.PointerSize.{PointerSize}
+use Rattle.bytes.specs.declared.PointerSize.the-variants.{Bits32, Bits64}
+use Rattle.bytes.specs.Ascii.{ascii}
+use Rattle.bytes.specs.Paper.{Paper}
+use Rattle.bytes.specs.Paper.Paper.{refuses}
+use Rattle.bytes.specs.Tables.{over}
 use Rattle.field.specs.declared.field.ParsedField.{ParsedField}
 use Rattle.field.specs.Calls.{«field::parse_field»}
-use Rattle.field.specs.Declarators.{told, paperField}
-use Rattle.blend.specs.declared.FileFormat.{FileFormat}
-use Rattle.blend.specs.declared.FileFormat.the-variants.{Legacy, New}
-use Rattle.blend.specs.declared.Header.{Header}
-use Rattle.blend.specs.declared.Version.{Version}
-use Rattle.blend.specs.declared.blend.HeaderAnswer.{HeaderAnswer}
+use Rattle.field.specs.Declarators.{toldAs, paperField}
+use Rattle.header.specs.declared.FileFormat.{FileFormat}
+use Rattle.header.specs.declared.FileFormat.the-variants.{Legacy, New}
+use Rattle.header.specs.declared.Header.{Header}
+use Rattle.header.specs.declared.Version.{Version}
+use Rattle.header.specs.declared.blend.HeaderAnswer.{HeaderAnswer}
 use Rattle.blend.specs.declared.blend.RawBlend.{RawBlend}
 use Rattle.blend.specs.declared.blend.BlendAnswer.{BlendAnswer}
-use Rattle.blend.specs.Calls.{«blend::header», «blend::blend»}
+use Rattle.header.specs.Calls.{«blend::header»}
+use Rattle.blend.specs.Calls.{«blend::blend»}
 use Rattle.blend.specs.Chain.{paperBlend}
 
 pub data Example : Type 0 where
@@ -44,7 +45,7 @@ All (e ∷ es) = Holds e × All es
 abbrev pub twoOfOne : List ℕ
 twoOfOne = ascii "BLENDER-v280" ++ (0 ∷ 0 ∷ 0 ∷ 0 ∷ 0 ∷ 0 ∷ 0 ∷ 0 ∷ 1 ∷ 0 ∷ 0 ∷ 0 ∷ 0 ∷ 0 ∷ 0 ∷ 0 ∷ 0 ∷ 0 ∷ 0 ∷ 0 ∷ 2 ∷ 0 ∷ 0 ∷ 0 ∷ [])
 
--- In the order of document 01. Of a declarator `told` has the kind (0 value, 1 array, 3 pointer array, 4 function pointer), the name's place and length, the
+-- In the order of document 01. Of a declarator `toldAs` has the kind (0 value, 1 array, 3 pointer array, 4 function pointer), the name's place and length, the
 -- rest's, and the kind's own numbers: indirection, length and number of dimensions, those it has.
 abbrev pub examples : List Example
 examples =
@@ -53,13 +54,13 @@ examples =
     ∷ version (ascii "BLENDER17-01v0501") 5 1
     ∷ version (ascii "BLENDER-v2x0") 0 20
     ∷ file twoOfOne (refuses 4 [])
-    ∷ declarator (ascii "a[3") (told 1 (0, 1) (1, 2) (1 ∷ 0 ∷ [])) []
+    ∷ declarator (ascii "a[3") (toldAs 1 (0, 1) (1, 2) (1 ∷ 0 ∷ [])) []
     ∷ declarator (ascii "a[]") (refuses 9 []) []
-    ∷ declarator (ascii "a[+3]") (told 1 (0, 1) (5, 0) (3 ∷ 1 ∷ [])) (3 ∷ [])
-    ∷ declarator (ascii "*m[2][3]") (told 3 (1, 1) (8, 0) (1 ∷ 6 ∷ 2 ∷ [])) (2 ∷ 3 ∷ [])
-    ∷ declarator (ascii "(*f)") (told 0 (0, 4) (4, 0) []) []
-    ∷ declarator (ascii "(*f)()") (told 4 (2, 1) (6, 0) []) []
-    ∷ declarator (ascii "") (told 0 (0, 0) (0, 0) []) []
+    ∷ declarator (ascii "a[+3]") (toldAs 1 (0, 1) (5, 0) (3 ∷ 1 ∷ [])) (3 ∷ [])
+    ∷ declarator (ascii "*m[2][3]") (toldAs 3 (1, 1) (8, 0) (1 ∷ 6 ∷ 2 ∷ [])) (2 ∷ 3 ∷ [])
+    ∷ declarator (ascii "(*f)") (toldAs 0 (0, 4) (4, 0) []) []
+    ∷ declarator (ascii "(*f)()") (toldAs 4 (2, 1) (6, 0) []) []
+    ∷ declarator (ascii "") (toldAs 0 (0, 0) (0, 0) []) []
     ∷ []
 
 abbrev pub AtTheEdges : Type 0

@@ -3,30 +3,30 @@ use Prim.Native.Nat.{ℕ, _<_}
 use mathlib.Core.List.{List, [], _∷_}
 use mathlib.Core.Path.{_≡_}
 use denote.Ref.{RefT, now}
-use lib.Ieee.{Float, Format, binary32, binary64, toBits}
+use lib.Ieee.{Float, binary32, binary64, toBits}
 use lib.ListN.{length, take}
-use Rattle.primitive.specs.declared.Endianness.{Endianness}
-use Rattle.primitive.specs.declared.Endianness.the-variants.{Big}
+use Rattle.bytes.specs.declared.Endianness.{Endianness}
+use Rattle.bytes.specs.declared.Endianness.the-variants.{Big}
 use Rattle.primitive.specs.declared.primitive.Name.{Name}
 use Rattle.primitive.specs.declared.primitive.ValueF32.{ValueF32}
 use Rattle.primitive.specs.declared.primitive.ValueF64.{ValueF64}
-use Rattle.primitive.specs.Ascii.{ascii}
+use Rattle.bytes.specs.Ascii.{ascii}
 use Rattle.primitive.specs.Calls as primitive
-use Rattle.primitive.specs.Number.{Bytes, spelled}
+use Rattle.bytes.specs.Number.{Bytes, spelled}
 use Rattle.blend.specs.declared.Kind.{Kind}
 use Rattle.blend.specs.declared.Row.{Row}
 use Rattle.blend.specs.declared.blend.BlendAnswer.{BlendAnswer}
 use Rattle.blend.specs.Blocks.{kindOf}
 use Rattle.blend.specs.Calls as blend
-use Rattle.blend.specs.Chain.{rowTable}
-use Rattle.blend.specs.Walker.{start, Stop, Walk}
-use Rattle.blend.specs.Walker.Stop.{ended, refused}
+use Rattle.walker.specs.Calls as walker
+use Rattle.blend.specs.Rows.{rowTable, spelt}
+use Rattle.walker.specs.Walker.{start, Stop, Walk}
+use Rattle.walker.specs.Walker.Stop.{ended, refused}
 use Rattle.runtime.specs.declared.runtime.BlockCode.{BlockCode}
 use Rattle.runtime.specs.declared.runtime.Pointer.{Pointer}
 use Rattle.runtime.specs.Calls as runtime
 use Rattle.held.specs.declared.Walker.{Walker}
 use Rattle.held.specs.Calls as held
-use Rattle.held.specs.Held.{spelt}
 use Rattle.held.specs.Walks.{HeldWalk}
 use Rattle.demands.specs.Answers.{rowsIn}
 
@@ -38,7 +38,7 @@ WalkBy walk (BlendAnswer.Refused n) t′ = (rows : List Row) × walk rows (refus
 WalkBy walk (BlendAnswer.TableTooShort n) t′ = (rows : List Row) × (end : ℕ) × (length rows ≡ n) × walk rows (ended end)
 
 abbrev pub WalksAsRead : Type 0
-WalksAsRead = (s t t′ : List ℕ) (r : BlendAnswer) → blend.«blend::blend» s t r t′ → WalkBy (Walk (λ p x. blend.«walker::Place::step» p s x) start) r t′
+WalksAsRead = (s t t′ : List ℕ) (r : BlendAnswer) → blend.«blend::blend» s t r t′ → WalkBy (Walk (λ p x. walker.«Place::step» p s x) start) r t′
 
 abbrev pub HeldWalksAsRead : Type 0
 HeldWalksAsRead = (file : RefT (List ℕ)) (w : Walker) → held.over file w → (t t′ : List ℕ) (r : BlendAnswer) → blend.«blend::blend» (now file) t r t′ → WalkBy (HeldWalk w) r t′

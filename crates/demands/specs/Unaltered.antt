@@ -7,27 +7,29 @@ use mathlib.Core.Path.{_≡_}
 use denote.Ref.{RefT, now}
 use lib.Dec.{leb, ltb, eqb}
 use lib.ListN.{length, getD}
-use Rattle.primitive.specs.declared.Endianness.{Endianness}
-use Rattle.primitive.specs.Paper.Paper.{accepts}
-use Rattle.primitive.specs.Reader.{Reader, Outcome, run}
-use Rattle.primitive.specs.Tables.{over}
+use Rattle.bytes.specs.Looks.{Untouched}
+use Rattle.bytes.specs.declared.Endianness.{Endianness}
+use Rattle.bytes.specs.Paper.Paper.{accepts}
+use Rattle.bytes.specs.Reader.{Reader, Outcome, run}
+use Rattle.bytes.specs.Tables.{over}
 use Rattle.dna.specs.declared.dna.DnaTables.{DnaTables}
 use Rattle.dna.specs.Catalogue.{catalogue, Filled}
 use Rattle.blend.specs.declared.Row.{Row}
-use Rattle.blend.specs.declared.Header.{Header}
-use Rattle.blend.specs.declared.blend.HeaderAnswer.{HeaderAnswer}
+use Rattle.header.specs.declared.Header.{Header}
+use Rattle.header.specs.declared.blend.HeaderAnswer.{HeaderAnswer}
 use Rattle.blend.specs.declared.blend.BlendAnswer.{BlendAnswer}
 use Rattle.blend.specs.Blocks.{codeNumber, payloadOf}
-use Rattle.blend.specs.Calls.{Answers, «blend::header», «walker::Place::step»}
-use Rattle.blend.specs.Chain.{File}
-use Rattle.blend.specs.Chain.{fileBy}
-use Rattle.blend.specs.Header.{HeaderBytes, headerBytes}
-use Rattle.blend.specs.Walker.{start, Walk}
-use Rattle.blend.specs.Walker.Stop.{ended}
-use Rattle.runtime.specs.Views.{cell, viewAs, partAs}
+use Rattle.blend.specs.Calls.{Answers}
+use Rattle.header.specs.Calls.{«blend::header»}
+use Rattle.walker.specs.Calls.{«Place::step»}
+use Rattle.blend.specs.Chain.{File, fileBy}
+use Rattle.header.specs.Header.{HeaderBytes, headerBytes}
+use Rattle.walker.specs.Walker.{start, Walk}
+use Rattle.walker.specs.Walker.Stop.{ended}
+use Rattle.blend.specs.Rows.{Column, cell, none}
+use Rattle.runtime.specs.Views.{viewAs, partAs}
 use Rattle.held.specs.declared.Walker.{Walker}
 use Rattle.held.specs.Calls as held
-use Rattle.held.specs.Held.{none}
 use Rattle.held.specs.Walks.{HeldWalk}
 use Rattle.exports.specs.declared.BlendRead.{BlendRead}
 use Rattle.exports.specs.Calls.{«blend_read»}
@@ -54,10 +56,6 @@ unfoldable pub agree : List Row → List ℕ → List ℕ → (at n : ℕ) → B
 agree rows s z at zero = true
 agree rows s z at (suc n) = (isFree rows at || eqb (getD z at 0) (getD s at 0)) && agree rows s z (at + 1) n
 
--- no byte from the one place up to the other differs
-abbrev pub Untouched : List ℕ → List ℕ → ℕ → ℕ → Type 0
-Untouched s z from to = (i : ℕ) → from ≤ i → i < to → getD z i 0 ≡ getD s i 0
-
 -- two lent tables after a call: the same numbers from the front, and after them what each held
 abbrev pub WroteSame : List ℕ → List ℕ → List ℕ → List ℕ → Type 0
 WroteSame t t′ u u′ = (new : List ℕ) × (t′ ≡ over new t) × (u′ ≡ over new u)
@@ -75,9 +73,9 @@ pub record Stays (s t t′ : List ℕ) (n : ℕ) (e : Endianness) (z u u′ : Li
   pub rows : (rowsIn u′ n ≡ rowsIn t′ n) × WroteSame t t′ u u′
   -- every payload can be viewed in both, and one in which no byte differs shows the same bytes
   pub views : (row : ℕ) → row < n
-      → (viewAs s t′ row ≡ accepts 0 []) × (viewAs z u′ row ≡ accepts 0 []) × (Untouched s z (cell t′ row 5) (cell t′ row 5 + cell t′ row 6) → partAs z u′ row ≡ partAs s t′ row)
+      → (viewAs s t′ row ≡ accepts 0 []) × (viewAs z u′ row ≡ accepts 0 []) × (Untouched s z (cell t′ row Column.payload) (cell t′ row Column.payload + cell t′ row Column.len) → partAs z u′ row ≡ partAs s t′ row)
   -- so does every DNA1's, and its catalogue is the same
-  pub catalogues : (row : ℕ) → row < n → cell t′ row 0 ≡ codeNumber "DNA1"
+  pub catalogues : (row : ℕ) → row < n → cell t′ row Column.code ≡ codeNumber "DNA1"
       → (partAs z u′ row ≡ partAs s t′ row) × SameCatalogue e (partAs s t′ row) (partAs z u′ row)
 
 -- the claim of two answers of `blend`: where the first is no refusal, the second has the same header, number of rows, end offset and counts, and the rest stays
@@ -114,8 +112,8 @@ pub record WalksOn (s : List ℕ) (rows : List Row) (z : List ℕ) : Type 0 wher
 
 abbrev pub NoOtherObjectWalked : Type 0
 NoOtherObjectWalked =
-    (s : List ℕ) (rows : List Row) (end : ℕ) → Walk (λ p r. «walker::Place::step» p s r) start rows (ended end) → (z : List ℕ) → Alike rows end s z
-    → Walk (λ p r. «walker::Place::step» p z r) start rows (ended end) × WalksOn s rows z
+    (s : List ℕ) (rows : List Row) (end : ℕ) → Walk (λ p r. «Place::step» p s r) start rows (ended end) → (z : List ℕ) → Alike rows end s z
+    → Walk (λ p r. «Place::step» p z r) start rows (ended end) × WalksOn s rows z
 
 abbrev pub NoOtherObjectHeld : Type 0
 NoOtherObjectHeld =

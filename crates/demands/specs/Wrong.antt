@@ -4,15 +4,15 @@ use mathlib.Core.Bool.{true, false}
 use mathlib.Core.List.{List, [], _∷_, map}
 use lib.Dec.{eqb}
 use lib.ListN.{getD}
-use Rattle.primitive.specs.declared.Fault.the-variants.{Mark}
-use Rattle.primitive.specs.Reader.{Reader, Outcome}
-use Rattle.primitive.specs.Reader.Outcome.{read, fault}
+use Rattle.bytes.specs.declared.Fault.the-variants.{Mark}
+use Rattle.bytes.specs.Reader.{Reader, Outcome}
+use Rattle.bytes.specs.Reader.Outcome.{read, fault}
 use Rattle.dna.specs.declared.dna.DnaCounts.{DnaCounts}
 use Rattle.blend.specs.declared.Row.{Row}
 use Rattle.blend.specs.Blocks.{payloadOf}
 use Rattle.blend.specs.Chain.{File, fileBy}
-use Rattle.blend.specs.Header.{HeaderBytes}
-use Rattle.held.specs.Held.{none}
+use Rattle.header.specs.Header.{HeaderBytes}
+use Rattle.blend.specs.Rows.{none}
 
 -- one that looks at a payload's byte: it refuses a file whose first block's payload begins with a zero
 abbrev peek : List ℕ → Outcome File → Outcome File

@@ -7,20 +7,20 @@ use native.Mathlib.Omega.{arith}
 use borrow.Author.Tests.{lt-ltb, le-ltb, ltb-true, ltb-false}
 use lib.Dec.{ltb}
 use lib.ListN.{length, length-append}
-use Rattle.primitive.specs.declared.Endianness.{Endianness}
-use Rattle.primitive.specs.declared.Fault.{Fault}
-use Rattle.primitive.specs.Helpers.{put}
-use Rattle.primitive.specs.Paper.Paper.{accepts, refuses}
-use Rattle.primitive.specs.Reader.{Outcome}
-use Rattle.primitive.specs.Reader.Outcome.{read, fault}
-use Rattle.primitive.specs.Refusals.{catalogueTableTooShort}
-use Rattle.primitive.specs.Tables.{written}
-use Rattle.primitive.proofs.Filling.{put-over, accepted-written, refused-kept}
-use Rattle.primitive.proofs.Tests.{held, failed}
+use Rattle.bytes.specs.declared.Endianness.{Endianness}
+use Rattle.bytes.specs.declared.Fault.{Fault}
+use Rattle.bytes.specs.Helpers.{put}
+use Rattle.bytes.specs.Paper.Paper.{accepts, refuses}
+use Rattle.bytes.specs.Reader.{Outcome}
+use Rattle.bytes.specs.Reader.Outcome.{read, fault}
+use Rattle.bytes.specs.Refusals.{catalogueTableTooShort}
+use Rattle.bytes.specs.Tables.{written}
+use Rattle.bytes.proofs.Filling.{put-over, accepted-written, refused-kept}
+use Rattle.bytes.proofs.Tests.{held, failed}
 use Rattle.dna.specs.declared.dna.DnaCounts.{DnaCounts}
 use Rattle.dna.specs.declared.dna.DnaTables.{DnaTables}
 use Rattle.dna.specs.declared.dna.Layout.{Layout}
-use Rattle.dna.specs.Catalogue.{Place, Struct, Dna, Rooms, pairs, typeRows, structRows, fieldRows, fieldCount, counts, countsOnly, answerFor, readAs, rowsOf, rooms, paperTables, Filled}
+use Rattle.dna.specs.Catalogue.{Text, Struct, Dna, Rooms, pairs, typeRows, structRows, fieldRows, fieldCount, counts, countsOnly, answerFor, readAs, rowsOf, rooms, paperTables, Filled}
 use Rattle.dna.specs.Passes.{Whole, dnaAt}
 
 -- the first table that is too short, and none
@@ -98,7 +98,7 @@ unfolding pairs
 pairs-length [] = refl
 pairs-length (p ∷ ps) = omega (arith, pairs-length ps)
 
-types-length : (ps : List Place) (zs : List ℕ) → length zs ≡ length ps → length (typeRows ps zs) ≡ 3 * length ps
+types-length : (ps : List Text) (zs : List ℕ) → length zs ≡ length ps → length (typeRows ps zs) ≡ 3 * length ps
 unfolding typeRows
 types-length [] zs h = refl
 types-length (p ∷ ps) [] h = absurd (omega arith)
@@ -169,10 +169,10 @@ refused-so o r k vs names types structs fields p a =
       in-fields = refused-kept _ k vs _ fields q;
     }
 
-pub stopped-so : (o : Outcome Dna) (x : Fault) (names types structs fields : List ℕ) → o ≡ fault x → Filled o DnaTables.Malformed names types structs fields names types structs fields
+pub stopped-so : (o : Outcome Dna) (x : Fault) (names types structs fields : List ℕ) → o ≡ fault x → Filled o (DnaTables.Refused 2) names types structs fields names types structs fields
 unfolding readAs
 stopped-so o x names types structs fields h =
-    refused-so o DnaTables.Malformed 2 [] names types structs fields refl (sym (ap (λ (q : Outcome Dna). readAs q (rooms (length names) (length types) (length structs) (length fields))) h))
+    refused-so o (DnaTables.Refused 2) 2 [] names types structs fields refl (sym (ap (λ (q : Outcome Dna). readAs q (rooms (length names) (length types) (length structs) (length fields))) h))
 
 -- one that finds room for all fills every table
 module _ (e : Endianness) (s : List ℕ) (l : Layout) (o : Outcome Dna) (w : Whole e s l o) (names types structs fields names′ types′ structs′ fields′ : List ℕ)

@@ -5,27 +5,27 @@ use mathlib.Core.Path.{_≡_, refl, sym, _∙_, ap}
 use native.Mathlib.Nat.{mul-suc}
 use native.Mathlib.Omega.{arith}
 use lib.ListN.{length}
-use Rattle.primitive.specs.declared.Endianness.{Endianness}
-use Rattle.primitive.specs.declared.Fault.{Fault}
-use Rattle.primitive.specs.Ascii.{ascii}
-use Rattle.primitive.specs.Helpers.{past, leading}
-use Rattle.primitive.specs.Number.{number, tag}
-use Rattle.primitive.specs.Reader.{Reader, Outcome, run, then, times}
-use Rattle.primitive.specs.Reader.Reader.{done, skip, string}
-use Rattle.primitive.specs.Reader.Outcome.{read, fault}
-use Rattle.primitive.proofs.Extent.{ends-after, ends-within}
-use Rattle.primitive.proofs.Times.{joined, one-more, none-yet, found-list, past-none, past-more, times-stops, past-read, past-fault, goes-on, stops}
-use Rattle.primitive.proofs.Onward.{string-on, string-stops, skip-on, skip-stops, number-on, number-stops, number-moves, tag-on, tag-stops}
-use Rattle.dna.specs.Catalogue.{Struct, place, padding, strings, listed, size, sized, field, struct, structured, fieldCount}
+use Rattle.bytes.specs.declared.Endianness.{Endianness}
+use Rattle.bytes.specs.declared.Fault.{Fault}
+use Rattle.bytes.specs.Ascii.{ascii}
+use Rattle.bytes.specs.Helpers.{past, leading}
+use Rattle.bytes.specs.Number.{number, tag}
+use Rattle.bytes.specs.Reader.{Reader, Outcome, run, then, times}
+use Rattle.bytes.specs.Reader.Reader.{done, skip, string}
+use Rattle.bytes.specs.Reader.Outcome.{read, fault}
+use Rattle.bytes.proofs.Extent.{ends-after, ends-within}
+use Rattle.bytes.proofs.Times.{joined, one-more, none-yet, found-list, past-none, past-more, times-stops, past-read, past-fault, goes-on, stops}
+use Rattle.bytes.proofs.Onward.{string-on, string-stops, skip-on, skip-stops, number-on, number-stops, number-moves, tag-on, tag-stops}
+use Rattle.dna.specs.Catalogue.{Struct, text, padding, strings, listed, size, sized, field, struct, structured, fieldCount}
 use Rattle.dna.specs.Passes.{headed, totalled}
 
--- one string, and its place
+-- one string, and its text
 module _ (s : List ℕ) (at : ℕ) where
-  pub place-read : (n next : ℕ) → read n next ≡ run (string done) s at → run place s at ≡ read (at, n) next
+  pub place-read : (n next : ℕ) → read n next ≡ run (string done) s at → run text s at ≡ read (at, n) next
   unfolding run
   place-read n next h = string-on s at (λ k. done (at, k)) n next h
 
-  pub place-stops : (x : Fault) → fault x ≡ run (string done) s at → run place s at ≡ fault x
+  pub place-stops : (x : Fault) → fault x ≡ run (string done) s at → run text s at ≡ fault x
   unfolding run
   place-stops x h = string-stops s at (λ k. done (at, k)) x h
 
@@ -92,22 +92,22 @@ all-stop r s n at x f h = stops (times n r) f s at x (past-fault r s n at x (sym
 
 -- strings and their padding
 module _ (s : List ℕ) (n at : ℕ) where
-  pub strings-stop : (x : Fault) → fault x ≡ past (run (times n place) s at) → run (strings n) s at ≡ fault x
+  pub strings-stop : (x : Fault) → fault x ≡ past (run (times n text) s at) → run (strings n) s at ≡ fault x
   unfolding strings run
-  strings-stop x h = all-stop place s n at x _ h
+  strings-stop x h = all-stop text s n at x _ h
 
-  module _ (end : ℕ) (h : read tt end ≡ past (run (times n place) s at)) where
-    on-strings : run (strings n) s at ≡ run (skip (padding (end - at)) (done (leading n place s at))) s end
+  module _ (end : ℕ) (h : read tt end ≡ past (run (times n text) s at)) where
+    on-strings : run (strings n) s at ≡ run (skip (padding (end - at)) (done (leading n text s at))) s end
     unfolding strings run
-    on-strings = all-on place s n at end h _
+    on-strings = all-on text s n at end h _
 
     module _ (p : ℕ) (e : p ≡ padding (end - at)) where
       pub padding-stops : (x : Fault) → _≡_ {A = Outcome (Unit {0})} (fault x) (run (skip p (done tt)) s end) → run (strings n) s at ≡ fault x
       padding-stops x k = on-strings ∙ skip-stops s end _ _ x (rw e at k)
 
-      pub padding-read : (next : ℕ) → _≡_ {A = Outcome (Unit {0})} (read tt next) (run (skip p (done tt)) s end) → run (strings n) s at ≡ read (leading n place s at) next
+      pub padding-read : (next : ℕ) → _≡_ {A = Outcome (Unit {0})} (read tt next) (run (skip p (done tt)) s end) → run (strings n) s at ≡ read (leading n text s at) next
       unfolding run
-      padding-read next k = on-strings ∙ skip-on s end (padding (end - at)) (done (leading n place s at)) next (rw e at k)
+      padding-read next k = on-strings ∙ skip-on s end (padding (end - at)) (done (leading n text s at)) next (rw e at k)
 
 -- a tree that takes as many bytes wherever it reads takes n times as many in n turns
 module _ {A : Type 0} (r : Reader A) (s : List ℕ) (w : ℕ) (fixed : (at : ℕ) (a : A) (next : ℕ) → run r s at ≡ read a next → next ≡ at + w) where

@@ -3,13 +3,13 @@ use Prim.Native.Nat.{ℕ, _*_, _%_}
 use mathlib.Core.List.{List, [], _∷_, _++_}
 use mathlib.Core.Path.{_≡_, refl}
 use native.Mathlib.Omega.{arith}
-use Rattle.primitive.specs.declared.Endianness.the-variants.{Little, Big}
-use Rattle.primitive.specs.declared.Fault.the-variants.{Cut, Mark}
-use Rattle.primitive.specs.Ascii.{ascii}
-use Rattle.primitive.specs.Paper.Paper.{accepts, refuses}
-use Rattle.primitive.specs.Looks.{looks}
-use Rattle.primitive.specs.Reader.{run, then, times}
-use Rattle.primitive.specs.Reader.Outcome.{read, fault}
+use Rattle.bytes.specs.declared.Endianness.the-variants.{Little, Big}
+use Rattle.bytes.specs.declared.Fault.the-variants.{Cut, Mark}
+use Rattle.bytes.specs.Ascii.{ascii}
+use Rattle.bytes.specs.Paper.Paper.{accepts, refuses}
+use Rattle.bytes.specs.Looks.{looks}
+use Rattle.bytes.specs.Reader.{run, then, times}
+use Rattle.bytes.specs.Reader.Outcome.{read, fault}
 use Rattle.dna.specs.Catalogue.{catalogue, listed, strings, sized, struct, structured, padding, rooms, readAs, answerFor, fieldCount, pairs, typeRows, structRows, fieldRows, namesTable, typesTable, structsTable, fieldsTable}
 
 -- A catalogue with the name "x", the type "int" of size 4 and one struct of type 0 with the field (0, 0); its padding holds sevens.
@@ -50,5 +50,5 @@ unfolding run then times catalogue listed strings sized structured struct
 stopped = (refl, refl)
 
 -- m sizes of 2 bytes have padding of 2 bytes if m is odd, and none if it is even
-sizesPadding : (m : ℕ) → padding (2 * m) ≡ 2 * (m % 2)
-sizesPadding m = omega arith
+sizes-padding : (m : ℕ) → padding (2 * m) ≡ 2 * (m % 2)
+sizes-padding m = omega arith

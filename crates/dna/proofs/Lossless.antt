@@ -5,8 +5,8 @@ use mathlib.Core.Path.{_≡_, sym, _∙_, ap}
 use Rattle.dna.specs.declared.dna.DnaCounted.{DnaCounted}
 use Rattle.dna.specs.declared.dna.DnaCounts as catalogues
 use Rattle.dna.specs.declared.dna.DnaTables.{DnaTables}
-use Rattle.primitive.specs.Reader.{Outcome}
-use Rattle.primitive.specs.Reader.Outcome.{read, fault}
+use Rattle.bytes.specs.Reader.{Outcome}
+use Rattle.bytes.specs.Reader.Outcome.{read, fault}
 use Rattle.dna.specs.Catalogue.{Dna, Filled, countsOnly, countedAs, paperTables, paperCounted, outcomeOf}
 
 counts-one : (a b : catalogues.DnaCounts) → a .names ≡ b .names → a .types ≡ b .types → a .structs ≡ b .structs → a .fields ≡ b .fields → a ≡ b
@@ -16,41 +16,41 @@ counts-one a b n t s f =
     ∙ ap (λ (x : ℕ). record { names = b .names; types = b .types; structs = x; fields = a .fields }) s
     ∙ ap (λ (x : ℕ). record { names = b .names; types = b .types; structs = b .structs; fields = x }) f
 
-pub wholeTables : (a b : DnaTables) → paperTables a ≡ paperTables b → a ≡ b
-wholeTables (DnaTables.Are x) (DnaTables.Are y) h =
+pub whole-tables : (a b : DnaTables) → paperTables a ≡ paperTables b → a ≡ b
+whole-tables (DnaTables.Are x) (DnaTables.Are y) h =
     let n : x .names ≡ y .names = cc in
     let t : x .types ≡ y .types = cc in
     let s : x .structs ≡ y .structs = cc in
     let f : x .fields ≡ y .fields = cc in
     ap DnaTables.Are (counts-one x y n t s f)
-wholeTables (DnaTables.Are x) DnaTables.Malformed h = cc
-wholeTables (DnaTables.Are x) (DnaTables.TableTooShort w y) h = cc
-wholeTables DnaTables.Malformed (DnaTables.Are y) h = cc
-wholeTables DnaTables.Malformed DnaTables.Malformed h = cc
-wholeTables DnaTables.Malformed (DnaTables.TableTooShort w y) h = cc
-wholeTables (DnaTables.TableTooShort v x) (DnaTables.Are y) h = cc
-wholeTables (DnaTables.TableTooShort v x) DnaTables.Malformed h = cc
-wholeTables (DnaTables.TableTooShort v x) (DnaTables.TableTooShort w y) h = cc
+whole-tables (DnaTables.Are x) (DnaTables.Refused n) h = cc
+whole-tables (DnaTables.Are x) (DnaTables.TableTooShort w y) h = cc
+whole-tables (DnaTables.Refused m) (DnaTables.Are y) h = cc
+whole-tables (DnaTables.Refused m) (DnaTables.Refused n) h = cc
+whole-tables (DnaTables.Refused m) (DnaTables.TableTooShort w y) h = cc
+whole-tables (DnaTables.TableTooShort v x) (DnaTables.Are y) h = cc
+whole-tables (DnaTables.TableTooShort v x) (DnaTables.Refused n) h = cc
+whole-tables (DnaTables.TableTooShort v x) (DnaTables.TableTooShort w y) h = cc
 
-pub wholeCounted : (a b : DnaCounted) → outcomeOf a ≡ outcomeOf b → a ≡ b
-wholeCounted (DnaCounted.Are x m) (DnaCounted.Are y n) h = cc
-wholeCounted (DnaCounted.Are x m) (DnaCounted.Stopped g) h = cc
-wholeCounted (DnaCounted.Stopped f) (DnaCounted.Are y n) h = cc
-wholeCounted (DnaCounted.Stopped f) (DnaCounted.Stopped g) h = cc
+pub whole-counted : (a b : DnaCounted) → outcomeOf a ≡ outcomeOf b → a ≡ b
+whole-counted (DnaCounted.Are x m) (DnaCounted.Are y n) h = cc
+whole-counted (DnaCounted.Are x m) (DnaCounted.Stopped g) h = cc
+whole-counted (DnaCounted.Stopped f) (DnaCounted.Are y n) h = cc
+whole-counted (DnaCounted.Stopped f) (DnaCounted.Stopped g) h = cc
 
 -- equal outcomes, equal papers
-countedPaper : (o : Outcome Dna) (r : DnaCounted) → outcomeOf r ≡ countsOnly o → paperCounted r ≡ countedAs o
-countedPaper (read d m) (DnaCounted.Are x n) h = cc
-countedPaper (read d m) (DnaCounted.Stopped g) h = cc
-countedPaper (fault f) (DnaCounted.Are x n) h = cc
-countedPaper (fault f) (DnaCounted.Stopped g) h = cc
+counted-paper : (o : Outcome Dna) (r : DnaCounted) → outcomeOf r ≡ countsOnly o → paperCounted r ≡ countedAs o
+counted-paper (read d m) (DnaCounted.Are x n) h = cc
+counted-paper (read d m) (DnaCounted.Stopped g) h = cc
+counted-paper (fault f) (DnaCounted.Are x n) h = cc
+counted-paper (fault f) (DnaCounted.Stopped g) h = cc
 
-pub countedBoth : (o : Outcome Dna) (r : DnaCounted) → outcomeOf r ≡ countsOnly o → (paperCounted r ≡ countedAs o) × (outcomeOf r ≡ countsOnly o)
-countedBoth o r h = (countedPaper o r h, h)
+pub counted-both : (o : Outcome Dna) (r : DnaCounted) → outcomeOf r ≡ countsOnly o → (paperCounted r ≡ countedAs o) × (outcomeOf r ≡ countsOnly o)
+counted-both o r h = (counted-paper o r h, h)
 
 -- `dna` has one answer, and each table one content afterwards
-pub oneFilling : (o : Outcome Dna) (r q : DnaTables) (names types structs fields n₁ t₁ s₁ f₁ n₂ t₂ s₂ f₂ : List ℕ)
+pub one-filling : (o : Outcome Dna) (r q : DnaTables) (names types structs fields n₁ t₁ s₁ f₁ n₂ t₂ s₂ f₂ : List ℕ)
     → Filled o r names types structs fields n₁ t₁ s₁ f₁ → Filled o q names types structs fields n₂ t₂ s₂ f₂
     → (r ≡ q) × (n₁ ≡ n₂) × (t₁ ≡ t₂) × (s₁ ≡ s₂) × (f₁ ≡ f₂)
-oneFilling o r q names types structs fields n₁ t₁ s₁ f₁ n₂ t₂ s₂ f₂ a b =
-    (wholeTables r q (a .answer ∙ sym (b .answer)), a .in-names ∙ sym (b .in-names), a .in-types ∙ sym (b .in-types), a .in-structs ∙ sym (b .in-structs), a .in-fields ∙ sym (b .in-fields))
+one-filling o r q names types structs fields n₁ t₁ s₁ f₁ n₂ t₂ s₂ f₂ a b =
+    (whole-tables r q (a .answer ∙ sym (b .answer)), a .in-names ∙ sym (b .in-names), a .in-types ∙ sym (b .in-types), a .in-structs ∙ sym (b .in-structs), a .in-fields ∙ sym (b .in-fields))

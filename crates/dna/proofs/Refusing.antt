@@ -2,18 +2,18 @@
 use Prim.Native.Nat.{ℕ}
 use mathlib.Core.List.{List}
 use lib.ListN.{length}
-use Rattle.primitive.specs.declared.Endianness.{Endianness}
-use Rattle.primitive.specs.Ascii.{ascii}
-use Rattle.primitive.specs.Number.{spelled}
-use Rattle.primitive.specs.Reader.{then, times}
-use Rattle.primitive.specs.Reader.Reader.{done}
-use Rattle.primitive.proofs.Refusing.{Gives, gives-then, gives-times, gives-tag}
-use Rattle.dna.specs.Catalogue.{place, strings, listed, size, sized, field, struct, structured, catalogue}
+use Rattle.bytes.specs.declared.Endianness.{Endianness}
+use Rattle.bytes.specs.Ascii.{ascii}
+use Rattle.bytes.specs.Number.{spelled}
+use Rattle.bytes.specs.Reader.{times}
+use Rattle.bytes.specs.Reader.Reader.{done}
+use Rattle.bytes.proofs.Refusing.{Gives, gives-then, gives-times, gives-tag}
+use Rattle.dna.specs.Catalogue.{text, strings, listed, size, sized, field, struct, structured, catalogue}
 
 module _ (P : ℕ → Type 0) (e : Endianness) where
   strings-give : (n : ℕ) → Gives P (strings n)
   unfolding strings
-  strings-give n = λ from. gives-then P (times n place) _ (gives-times P n place (λ at m. tt)) (λ ps to. tt)
+  strings-give n = λ from. gives-then P (times n text) _ (gives-times P n text (λ at m. tt)) (λ ps to. tt)
 
   listed-gives : (mark : List ℕ) → Gives P (listed e mark)
   unfolding listed

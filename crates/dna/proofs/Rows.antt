@@ -1,30 +1,16 @@
 -- The pass that fills: the rows of one element more, for each of the four tables.
 use Prim.Native.Nat.{ℕ, _+_, _-_, _≤_, _<_}
 use mathlib.Core.List.{List, [], _∷_, _++_}
-use mathlib.Core.Path.{_≡_, refl, _∙_, ap, subst}
-use native.Mathlib.Omega.{arith}
-use lib.ListN.{length, length-append}
-use Rattle.primitive.specs.declared.Endianness.{Endianness}
-use Rattle.primitive.specs.declared.Fault.{Fault}
-use Rattle.primitive.specs.Helpers.{leading, put}
-use Rattle.primitive.specs.Reader.{Reader, run}
-use Rattle.primitive.specs.Reader.Outcome.{read, fault}
-use Rattle.primitive.proofs.Filling.{Storing, stored}
-use Rattle.primitive.proofs.Times.{leading-more, leading-stops, leading-none}
-use Rattle.dna.specs.Catalogue.{Place, pairs, typeRows, structRows, fieldRows, place, size, field, struct}
+use mathlib.Core.Path.{_≡_, refl, _∙_, ap}
+use Rattle.bytes.specs.declared.Endianness.{Endianness}
+use Rattle.bytes.specs.declared.Fault.{Fault}
+use Rattle.bytes.specs.Helpers.{leading}
+use Rattle.bytes.specs.Reader.{Reader, run}
+use Rattle.bytes.specs.Reader.Outcome.{read, fault}
+use Rattle.bytes.proofs.Times.{leading-more, leading-stops, leading-none}
+use Rattle.dna.specs.Catalogue.{Text, pairs, typeRows, structRows, fieldRows, text, size, field, struct}
 use Rattle.dna.specs.Passes.{headed}
 use Rattle.dna.proofs.Counting.{headed-read, struct-fields}
-
--- a row that is stored: there is room for it, and the rest is left
-module _ (t₀ : List ℕ) (first : ℕ) (all t : List ℕ) (i : ℕ) (row rest left : List ℕ) (f : Storing t₀ first all t i left) (e : left ≡ row ++ rest) where
-  as-row : Storing t₀ first all t i (row ++ rest)
-  as-row = subst (Storing t₀ first all t i) e f
-
-  pub row-fits : i + length row ≤ length t
-  row-fits = omega (arith, as-row .room, length-append row rest)
-
-  pub row-stored : (t′ : List ℕ) (j : ℕ) → t′ ≡ put t i row → j ≡ i + length row → Storing t₀ first all t′ j rest
-  row-stored t′ j p q = rw (p, q) (stored t₀ first all t i row rest as-row)
 
 -- names and fields: two numbers each
 module _ (r : Reader (ℕ × ℕ)) (s : List ℕ) (left at : ℕ) where
@@ -40,28 +26,28 @@ module _ (r : Reader (ℕ × ℕ)) (s : List ℕ) (left at : ℕ) where
   unfolding pairs
   pair-none h = ap pairs (leading-none r s left at h)
 
--- types: a place and a size
-no-sizes : (ps : List Place) → typeRows ps [] ≡ []
+-- types: a text and a size
+no-sizes : (ps : List Text) → typeRows ps [] ≡ []
 unfolding typeRows
 no-sizes [] = refl
 no-sizes (p ∷ ps) = refl
 
 module _ (e : Endianness) (s : List ℕ) (left at zat : ℕ) where
-  pub type-more : 0 < left → (a b next z znext : ℕ) → run place s at ≡ read (a, b) next → run (size e) s zat ≡ read z znext
-      → typeRows (leading left place s at) (leading left (size e) s zat) ≡ (a ∷ b ∷ z ∷ []) ++ typeRows (leading (left - 1) place s next) (leading (left - 1) (size e) s znext)
+  pub type-more : 0 < left → (a b next z znext : ℕ) → run text s at ≡ read (a, b) next → run (size e) s zat ≡ read z znext
+      → typeRows (leading left text s at) (leading left (size e) s zat) ≡ (a ∷ b ∷ z ∷ []) ++ typeRows (leading (left - 1) text s next) (leading (left - 1) (size e) s znext)
   unfolding typeRows
-  type-more h a b next z znext p q = rw (leading-more place s left at h (a, b) next p, leading-more (size e) s left zat h z znext q)
+  type-more h a b next z znext p q = rw (leading-more text s left at h (a, b) next p, leading-more (size e) s left zat h z znext q)
 
-  pub type-no-place : (x : Fault) → run place s at ≡ fault x → typeRows (leading left place s at) (leading left (size e) s zat) ≡ []
+  pub type-no-place : (x : Fault) → run text s at ≡ fault x → typeRows (leading left text s at) (leading left (size e) s zat) ≡ []
   unfolding typeRows
-  type-no-place x p = rw (leading-stops place s left at x p)
+  type-no-place x p = rw (leading-stops text s left at x p)
 
-  pub type-no-size : (x : Fault) → run (size e) s zat ≡ fault x → typeRows (leading left place s at) (leading left (size e) s zat) ≡ []
-  type-no-size x q = rw (leading-stops (size e) s left zat x q) (no-sizes (leading left place s at))
+  pub type-no-size : (x : Fault) → run (size e) s zat ≡ fault x → typeRows (leading left text s at) (leading left (size e) s zat) ≡ []
+  type-no-size x q = rw (leading-stops (size e) s left zat x q) (no-sizes (leading left text s at))
 
-  pub type-none : left ≤ 0 → typeRows (leading left place s at) (leading left (size e) s zat) ≡ []
+  pub type-none : left ≤ 0 → typeRows (leading left text s at) (leading left (size e) s zat) ≡ []
   unfolding typeRows
-  type-none h = rw (leading-none place s left at h)
+  type-none h = rw (leading-none text s left at h)
 
 -- structs: type, first field row, field count; and their fields
 module _ (e : Endianness) (s : List ℕ) (left at : ℕ) where

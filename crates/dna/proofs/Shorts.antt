@@ -8,17 +8,18 @@ use native.Mathlib.Omega.{arith}
 use borrow.Author.Tests.{leb-true, leb-false, le-leb, lt-leb}
 use lib.Dec.{leb}
 use lib.ListN.{length}
-use Rattle.primitive.specs.declared.Endianness.{Endianness}
-use Rattle.primitive.specs.declared.Fault.the-variants.{Cut}
-use Rattle.primitive.specs.Helpers.{numberAt, past}
-use Rattle.primitive.specs.Number.{number}
-use Rattle.primitive.specs.Reader.{Reader, Outcome, run, times, room}
-use Rattle.primitive.specs.Reader.Reader.{done}
-use Rattle.primitive.specs.Reader.Outcome.{read, fault}
-use Rattle.primitive.proofs.Onward.{number-moves}
-use Rattle.primitive.proofs.Reading.{onwards, number-there}
-use Rattle.primitive.proofs.Tests.{held, failed}
-use Rattle.primitive.proofs.Times.{past-none, past-more, times-stops}
+use Rattle.bytes.proofs.Going.{number-within}
+use Rattle.bytes.specs.declared.Endianness.{Endianness}
+use Rattle.bytes.specs.declared.Fault.the-variants.{Cut}
+use Rattle.bytes.specs.Helpers.{numberAt, past}
+use Rattle.bytes.specs.Number.{number}
+use Rattle.bytes.specs.Reader.{Reader, Outcome, run, times, room}
+use Rattle.bytes.specs.Reader.Reader.{done}
+use Rattle.bytes.specs.Reader.Outcome.{read, fault}
+use Rattle.bytes.proofs.Onward.{number-moves}
+use Rattle.bytes.proofs.Reading.{onwards, number-there}
+use Rattle.bytes.proofs.Tests.{held, failed}
+use Rattle.bytes.proofs.Times.{past-none, past-more, times-stops}
 use Rattle.dna.specs.Catalogue.{size, field}
 use Rattle.dna.specs.Passes.{shortsFrom}
 use Rattle.dna.proofs.Counting.{field-stops, field-stops-later, field-read, field-moves, all-move}
@@ -26,7 +27,7 @@ use Rattle.dna.proofs.Counting.{field-stops, field-stops-later, field-r
 abbrev Reached : Type 0
 Reached = Outcome (Unit {0})
 
--- past n of them from a place on
+-- past n of them from a text on
 abbrev reach : List ℕ → ℕ → ℕ → Reached
 reach s n at = elim (leb n (shortsFrom s at)) [ true ↦ read tt (at + 2 * n) | false ↦ fault (Cut (at + 2 * shortsFrom s at)) ]
 
@@ -132,21 +133,6 @@ module _ (s : List ℕ) where
       fields-cut h = sym (times-reach (field e) 2 field-reach n at ∙ cut (2 * n) at (omega arith))
 
 -- what was read is there
-number-within : (e : Endianness) (s : List ℕ) (w at n next : ℕ) → run (number e w done) s at ≡ read n next → next ≤ length s
-unfolding run
-number-within e s w at n next h = go (room s at w) refl
-  where
-    go : (b : Bool) → room s at w ≡ b → next ≤ length s
-    go true t =
-        let q : _≡_ {A = Outcome ℕ} (read (numberAt e w s at) (at + w)) (read n next) = sym (held _ _ t) ∙ h in
-        let z : at + w ≡ next = cc in
-        let k : at + w ≤ length s = leb-true _ _ t in
-        omega arith
-    go false t =
-        let q : _≡_ {A = Outcome ℕ} (fault (Cut at)) (read n next) = sym (failed _ _ t) ∙ h in
-        let z : _≡_ {A = ℕ} 0 1 = cc in
-        absurd (omega arith)
-
 fields-within : (s : List ℕ) (e : Endianness) (n from last : ℕ) → read tt last ≡ past (run (times n (field e)) s from) → from ≤ length s → last ≤ length s
 fields-within s e n from last g h = go (leb (2 * n) (shortsFrom s from)) refl (g ∙ times-reach s (field e) 2 (field-reach s e) n from)
   where

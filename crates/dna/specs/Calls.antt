@@ -1,10 +1,10 @@
--- What each public call promises, by its name (crates/primitive/specs/Calls.antt says how to read it). A table that is lent to write in stands for what it held, and
+-- What each public call promises, by its name (crates/bytes/specs/Calls.antt says how to read it). A table that is lent to write in stands for what it held, and
 -- primed for what it holds afterwards.
 use Prim.Native.Nat.{ℕ}
 use mathlib.Core.List.{List}
 use mathlib.Core.Path.{_≡_}
-use Rattle.primitive.specs.declared.Endianness.{Endianness}
-use Rattle.primitive.specs.Reader.{run}
+use Rattle.bytes.specs.declared.Endianness.{Endianness}
+use Rattle.bytes.specs.Reader.{run}
 use Rattle.dna.specs.declared.dna.DnaCounted.{DnaCounted}
 use Rattle.dna.specs.declared.dna.DnaTables.{DnaTables}
 use Rattle.dna.specs.Catalogue.{catalogue, countedAs, paperCounted, countsOnly, outcomeOf, Filled}

@@ -6,31 +6,31 @@ use mathlib.Core.List.{List, [], _∷_, _++_}
 use mathlib.Core.Path.{_≡_}
 use lib.Dec.{ltb}
 use lib.ListN.{length}
-use Rattle.primitive.specs.declared.Endianness.{Endianness}
-use Rattle.primitive.specs.Ascii.{ascii}
-use Rattle.primitive.specs.Number.{number, tag}
-use Rattle.primitive.specs.Paper.{Paper}
-use Rattle.primitive.specs.Paper.Paper.{accepts}
-use Rattle.primitive.specs.Reader.{Reader, Outcome, then, times}
-use Rattle.primitive.specs.Reader.Reader.{done, here, skip, string}
-use Rattle.primitive.specs.Reader.Outcome.{read, fault}
-use Rattle.primitive.specs.Refusals.{malformed, catalogueTableTooShort, paperFault}
-use Rattle.primitive.specs.Tables.{written}
+use Rattle.bytes.specs.declared.Endianness.{Endianness}
+use Rattle.bytes.specs.Ascii.{ascii}
+use Rattle.bytes.specs.Number.{number, tag}
+use Rattle.bytes.specs.Paper.{Paper}
+use Rattle.bytes.specs.Paper.Paper.{accepts, refuses}
+use Rattle.bytes.specs.Reader.{Reader, Outcome, then, times}
+use Rattle.bytes.specs.Reader.Reader.{done, here, skip, string}
+use Rattle.bytes.specs.Reader.Outcome.{read, fault}
+use Rattle.bytes.specs.Refusals.{malformed, catalogueTableTooShort, paperFault}
+use Rattle.bytes.specs.Tables.{written}
 use Rattle.dna.specs.declared.dna.DnaCounts.{DnaCounts}
 use Rattle.dna.specs.declared.dna.DnaCounted.{DnaCounted}
 use Rattle.dna.specs.declared.dna.DnaTables.{DnaTables}
 
--- a string's place: its offset in the payload, and its length
-abbrev pub Place : Type 0
-Place = ℕ × ℕ
+-- a string's text: its offset in the payload, and its length
+abbrev pub Text : Type 0
+Text = ℕ × ℕ
 
 -- a struct: .0 its type number, .1 its fields, each with .0 its type number and .1 its name number
 abbrev pub Struct : Type 0
 Struct = ℕ × List (ℕ × ℕ)
 
 pub record Dna : Type 0 where
-  pub names : List Place
-  pub types : List Place
+  pub names : List Text
+  pub types : List Text
   pub sizes : List ℕ
   pub structs : List Struct
 
@@ -39,16 +39,16 @@ abbrev pub padding : ℕ → ℕ
 padding n = (4 - n % 4) % 4
 
 -- a zero-ended byte string
-abbrev pub place : Reader Place
-place = here (λ at. string (λ n. done (at, n)))
+abbrev pub text : Reader Text
+text = here (λ at. string (λ n. done (at, n)))
 
 -- n strings, then padding to a multiple of 4 of the strings' total length with their zeros
-unfoldable pub strings : ℕ → Reader (List Place)
+unfoldable pub strings : ℕ → Reader (List Text)
 unfolding then times
-strings n = here (λ from. then (times n place) (λ ps. here (λ to. skip (padding (to - from)) (done ps))))
+strings n = here (λ from. then (times n text) (λ ps. here (λ to. skip (padding (to - from)) (done ps))))
 
 -- a mark, u32 n, n strings, padding
-unfoldable pub listed : Endianness → List ℕ → Reader (List Place)
+unfoldable pub listed : Endianness → List ℕ → Reader (List Text)
 unfolding strings
 listed e mark = tag mark (number e 4 strings)
 
@@ -96,7 +96,7 @@ pairs [] = []
 pairs (p ∷ ps) = p .0 ∷ p .1 ∷ pairs ps
 
 -- Rows of types: offset, length, size. There are as many sizes as types.
-unfoldable pub typeRows : List Place → List ℕ → List ℕ
+unfoldable pub typeRows : List Text → List ℕ → List ℕ
 typeRows [] zs = []
 typeRows (p ∷ ps) [] = []
 typeRows (p ∷ ps) (z ∷ zs) = p .0 ∷ p .1 ∷ z ∷ typeRows ps zs
@@ -166,7 +166,7 @@ fieldsTable o r t = written (readAs o r) (rowsOf (λ d. fieldRows (d .structs)) 
 -- the paper of the answer: 0 is the one that is no refusal
 abbrev pub paperTables : DnaTables → Paper
 paperTables (DnaTables.Are n) = accepts 0 (n .names ∷ n .types ∷ n .structs ∷ n .fields ∷ [])
-paperTables DnaTables.Malformed = malformed
+paperTables (DnaTables.Refused n) = refuses n []
 paperTables (DnaTables.TableTooShort which rows) = catalogueTableTooShort which rows
 
 -- What `dna` promises of a payload's reading o: the answer r on paper, and the four tables afterwards, from what they held before.
@@ -177,7 +177,7 @@ pub record Filled (o : Outcome Dna) (r : DnaTables) (names types structs fields 
   pub in-structs : structs′ ≡ structsTable o (rooms (length names) (length types) (length structs) (length fields)) structs
   pub in-fields : fields′ ≡ fieldsTable o (rooms (length names) (length types) (length structs) (length fields)) fields
 
--- The counts alone, with the place after the last struct; or the fault as the tree has it.
+-- The counts alone, with the text after the last struct; or the fault as the tree has it.
 abbrev pub countsOnly : Outcome Dna → Outcome DnaCounts
 countsOnly (read d next) = read (counts d) next
 countsOnly (fault f) = fault f
@@ -186,7 +186,7 @@ abbrev pub outcomeOf : DnaCounted → Outcome DnaCounts
 outcomeOf (DnaCounted.Are n next) = read n next
 outcomeOf (DnaCounted.Stopped f) = fault f
 
--- on paper: the four counts and the place, or the fault's refusal, which is 2 for a missing byte and for a mark
+-- on paper: the four counts and the text, or the fault's refusal, which is 2 for a missing byte and for a mark
 abbrev pub countedAs : Outcome Dna → Paper
 countedAs (read d next) = accepts 0 (length (d .names) ∷ length (d .types) ∷ length (d .structs) ∷ fieldCount (d .structs) ∷ next ∷ [])
 countedAs (fault f) = paperFault f

@@ -1,35 +1,38 @@
 // The catalogue: parsers/dna.rs of the Rust, with lent tables. First a pass that counts and refuses, then one that fills.
-use primitive::Endianness;
-use primitive::Fault;
-use primitive::cursor::Counted;
-use primitive::cursor::Cursor;
-use primitive::cursor::Moved;
-use primitive::cursor::Numbered;
-use primitive::cursor::Width;
+use bytes::Endianness;
+use bytes::Fault;
+use bytes::cursor::Counted;
+use bytes::cursor::Cursor;
+use bytes::cursor::Moved;
+use bytes::cursor::Numbered;
+use bytes::cursor::Width;
 use primitive::primitive::ValueU16;
 use primitive::primitive::parse_u16;
 ghost use mathlib.Core.Path.{_≡_};
 ghost use Prim.Native.Nat.{_+_, _*_, _^_, _≤_, _<_};
 ghost use mathlib.Core.List.{[], _∷_};
 ghost use lib.ListN.{length};
-ghost use Rattle.primitive.specs.Helpers.{numberAt, past, leading, put};
-ghost use Rattle.primitive.specs.Cursor.{moved};
-ghost use Rattle.primitive.specs.Number.{number};
-ghost use Rattle.primitive.specs.Reader.{run, times};
+ghost use Rattle.bytes.specs.Helpers.{numberAt, past, leading, put};
+ghost use Rattle.bytes.specs.Cursor.{moved};
+ghost use Rattle.bytes.specs.Number.{number};
+ghost use Rattle.bytes.specs.Reader.{run, times};
 ghost use Rattle.dna.specs.Catalogue as rules;
 ghost use Rattle.dna.specs.Passes.{ListedIs, SizedIs, StructsAre, OneStructIs, LaidIs, Spanned, spanOf, totalled, structTotal, shortsFrom, afterNames, afterTypes};
 ghost use Rattle.dna.specs.Calls as calls;
 
-// A number in the list of types, and one in the list of names. Neither stands in for the other.
+/// A number in the list of types, and one in the list of names. Neither stands in for the other.
 pub struct TypeNumber(pub u64);
 
+/// The number of a name in the catalogue.
 pub struct NameNumber(pub u64);
 
+/// A field of a struct: its type and its name, by their numbers.
 pub struct DnaField {
     pub type_index: TypeNumber,
     pub name_index: NameNumber,
 }
 
+/// How many names, types, structs and fields a catalogue has.
 pub struct DnaCounts {
     pub names: u64,
     pub types: u64,
@@ -37,16 +40,16 @@ pub struct DnaCounts {
     pub fields: u64,
 }
 
-// What a payload has, and the place after its last struct; or where and why it does not read.
+/// What a payload has, and the place after its last struct; or where and why it does not read.
 pub enum DnaCounted {
     Are(DnaCounts, usize),
     Stopped(Fault),
 }
 
-// What dna answers: the counts, refusal 2, or refusal 8 with the first table that is too short and the rows that it needs.
+/// What dna answers: the counts, refusal 2, or refusal 8 with the first table that is too short and the rows that it needs.
 pub enum DnaTables {
     Are(DnaCounts),
-    Malformed,
+    Refused(u64),
     TableTooShort(u64, u64),
 }
 
@@ -118,7 +121,7 @@ fn padding(n: usize) -> usize
 
 // Past n zero-ended strings.
 fn strings(c: Cursor, s: &[u8], n: u64) -> Moved
-    ensures { λ r. ⌜ moved r ≡ past (run (times n rules.place) (now (s .entry)) (c .at)) ⌝ }
+    ensures { λ r. ⌜ moved r ≡ past (run (times n rules.text) (now (s .entry)) (c .at)) ⌝ }
 {
     let mut here = c;
     let mut left = n;
@@ -354,8 +357,8 @@ fn put_three(table: &mut [u64], i: usize, a: u64, b: u64, c: u64) -> usize
 
 // Writes the rows of n names: offset, length.
 fn fill_names(s: &[u8], at: usize, n: u64, table: &mut [u64])
-    requires { ⌜ length (rules.pairs (leading n rules.place (now s) at)) ≤ length (now table) ⌝ }
-    ensures { λ _. ⌜ now (table .exit) ≡ put (now (table .entry)) 0 (rules.pairs (leading n rules.place (now (s .entry)) at)) ⌝ }
+    requires { ⌜ length (rules.pairs (leading n rules.text (now s) at)) ≤ length (now table) ⌝ }
+    ensures { λ _. ⌜ now (table .exit) ≡ put (now (table .entry)) 0 (rules.pairs (leading n rules.text (now (s .entry)) at)) ⌝ }
 {
     let mut here = Cursor { at };
     let mut left = n;
@@ -376,8 +379,8 @@ fn fill_names(s: &[u8], at: usize, n: u64, table: &mut [u64])
 
 // Writes the rows of m types: offset, length, size. The strings start at at, and the sizes at sizesat.
 fn fill_types(s: &[u8], e: Endianness, at: usize, sizesat: usize, m: u64, table: &mut [u64])
-    requires { ⌜ length (rules.typeRows (leading m rules.place (now s) at) (leading m (rules.size e) (now s) sizesat)) ≤ length (now table) ⌝ }
-    ensures { λ _. ⌜ now (table .exit) ≡ put (now (table .entry)) 0 (rules.typeRows (leading m rules.place (now (s .entry)) at) (leading m (rules.size e) (now (s .entry)) sizesat)) ⌝ }
+    requires { ⌜ length (rules.typeRows (leading m rules.text (now s) at) (leading m (rules.size e) (now s) sizesat)) ≤ length (now table) ⌝ }
+    ensures { λ _. ⌜ now (table .exit) ≡ put (now (table .entry)) 0 (rules.typeRows (leading m rules.text (now (s .entry)) at) (leading m (rules.size e) (now (s .entry)) sizesat)) ⌝ }
 {
     let mut here = Cursor { at };
     let mut there = Cursor { at: sizesat };
@@ -445,7 +448,7 @@ fn short(s: &[u8], at: usize, e: Endianness) -> u64
 {
     match parse_u16(&s[at..at + 2], e) {
         ValueU16::Is(n) => n as u64,
-        ValueU16::Short => 0,
+        ValueU16::Refused(_) => 0,
     }
 }
 
@@ -506,7 +509,7 @@ fn fill_fields(s: &[u8], e: Endianness, at: usize, n: u64, table: &mut [u64])
     }
 }
 
-// What a payload has, or where and why it does not read: the catalogue without tables.
+/// What a payload has, or where and why it does not read: the catalogue without tables.
 pub fn dna_counts(payload: &[u8], endianness: Endianness) -> DnaCounted
     ensures { λ r. ⌜ calls.«dna::dna_counts» (now (payload .entry)) endianness r ⌝ }
 {
@@ -543,7 +546,7 @@ fn room_for(n: DnaCounts, names: usize, types: usize, structs: usize, fields: us
     DnaTables::Are(n)
 }
 
-// Reads a payload into the four tables: names, types, structs, fields.
+/// Reads a payload into the four tables: names, types, structs, fields.
 pub fn dna(
     payload: &[u8],
     endianness: Endianness,
@@ -555,7 +558,7 @@ pub fn dna(
     ensures { λ r. ⌜ calls.«dna::dna» (now (payload .entry)) endianness (now (names .entry)) (now (types .entry)) (now (structs .entry)) (now (fields .entry)) r (now (names .exit)) (now (types .exit)) (now (structs .exit)) (now (fields .exit)) ⌝ }
 {
     match whole(payload, endianness) {
-        Laid::Stopped(_) => DnaTables::Malformed,
+        Laid::Stopped(_) => DnaTables::Refused(Fault::MALFORMED),
         Laid::Is(l) => {
             let n = DnaCounts {
                 names: l.names,
@@ -571,7 +574,7 @@ pub fn dna(
                     fill_fields(payload, endianness, l.structsat, l.structs, fields);
                     DnaTables::Are(n)
                 }
-                DnaTables::Malformed => DnaTables::Malformed,
+                DnaTables::Refused(refusal) => DnaTables::Refused(refusal),
                 DnaTables::TableTooShort(which, rows) => DnaTables::TableTooShort(which, rows),
             }
         }

@@ -1,16 +1,17 @@
--- What each function for other languages promises, by its name (crates/primitive/specs/Calls.antt says how to read it). A table that is lent to write in stands for what
+-- What each function for other languages promises, by its name (crates/bytes/specs/Calls.antt says how to read it). A table that is lent to write in stands for what
 -- it held, and primed for what it holds afterwards.
 use Prim.Native.Nat.{ℕ, _/_}
 use mathlib.Core.List.{List}
 use mathlib.Core.Path.{_≡_}
 use lib.ListN.{length}
 use Rattle.primitive.specs.Primitive.{valueOf, unsigned}
-use Rattle.primitive.specs.Reader.{run}
+use Rattle.bytes.specs.Reader.{run}
 use Rattle.dna.specs.Catalogue.{catalogue}
 use Rattle.field.specs.Declarators.{declared, parsedAs, filledBy, widthAs}
-use Rattle.blend.specs.Header.{headerBytes, valued, headerAs}
-use Rattle.blend.specs.Chain.{fileBy, perRow, readAs, tableAfter}
-use Rattle.runtime.specs.Views.{cell, viewAs}
+use Rattle.header.specs.Header.{headerBytes, valued, headerAs}
+use Rattle.blend.specs.Chain.{fileBy, readAs, tableAfter}
+use Rattle.blend.specs.Rows.{Column, perRow, cell}
+use Rattle.runtime.specs.Views.{viewAs}
 use Rattle.runtime.specs.Addresses.{lookupAs}
 use Rattle.exports.specs.declared.BlendHeader.{BlendHeader}
 use Rattle.exports.specs.declared.BlendRead.{BlendRead}
@@ -37,7 +38,7 @@ abbrev pub «blend_width» : (kind length size «pointer_bytes» : ℕ) → Blen
 «blend_width» kind length size «pointer_bytes» r = r ≡ valueOut (widthAs (declaratorOf kind length) size (sizeOf «pointer_bytes»))
 
 abbrev pub «blend_view» : (file table : List ℕ) (row : ℕ) → BlendView → Type 0
-«blend_view» file table row r = r ≡ viewOut (viewAs file table row) (cell table row 5) (cell table row 6)
+«blend_view» file table row r = r ≡ viewOut (viewAs file table row) (cell table row Column.payload) (cell table row Column.len)
 
 abbrev pub «blend_lookup» : (table : List ℕ) (rows address : ℕ) → BlendPointer → Type 0
 «blend_lookup» table rows address r = r ≡ pointerOut (lookupAs table rows address)

@@ -6,13 +6,13 @@ use mathlib.Core.List.{List, []}
 use mathlib.Core.Path.{_≡_}
 use lib.Dec.{eqb}
 use lib.ListN.{length, getD}
-use Rattle.primitive.specs.declared.Endianness.{Endianness}
-use Rattle.primitive.specs.declared.Endianness.the-variants.{Little, Big}
-use Rattle.primitive.specs.declared.PointerSize.{PointerSize}
-use Rattle.primitive.specs.declared.PointerSize.the-variants.{Bits32, Bits64}
-use Rattle.primitive.specs.Paper.{Paper}
-use Rattle.primitive.specs.Paper.Paper.{accepts, integer, real, refuses}
-use Rattle.primitive.specs.Reader.{Outcome}
+use Rattle.bytes.specs.declared.Endianness.{Endianness}
+use Rattle.bytes.specs.declared.Endianness.the-variants.{Little, Big}
+use Rattle.bytes.specs.declared.PointerSize.{PointerSize}
+use Rattle.bytes.specs.declared.PointerSize.the-variants.{Bits32, Bits64}
+use Rattle.bytes.specs.Paper.{Paper}
+use Rattle.bytes.specs.Paper.Paper.{accepts, integer, real, refuses}
+use Rattle.bytes.specs.Reader.{Outcome}
 use Rattle.field.specs.declared.field.Declarator.{Declarator}
 use Rattle.field.specs.declared.field.FieldInfo.{FieldInfo}
 use Rattle.dna.specs.Catalogue.{Dna, rooms, readAs, namesTable, typesTable, structsTable, fieldsTable}
@@ -37,11 +37,11 @@ carried (integer z) i = 0
 carried (real x) i = 0
 carried (refuses n vs) i = getD vs i 0
 
-abbrev pub told : Paper → ℕ → ℕ
-told (accepts k vs) i = getD vs i 0
-told (integer z) i = 0
-told (real x) i = 0
-told (refuses n vs) i = 0
+abbrev pub toldAt : Paper → ℕ → ℕ
+toldAt (accepts k vs) i = getD vs i 0
+toldAt (integer z) i = 0
+toldAt (real x) i = 0
+toldAt (refuses n vs) i = 0
 
 -- an order by its number: 0 little, any other big
 abbrev pub orderOf : ℕ → Endianness
@@ -50,7 +50,7 @@ orderOf n = elim (eqb n 0) [ true ↦ Little | false ↦ Big ]
 -- edition (0 legacy, 1 new), pointer bytes, order (0 little, 1 big), major, minor, the header's length
 abbrev pub headerOut : Paper → BlendHeader
 headerOut p =
-    record { refusal = refusal p; edition = told p 0; «pointer_bytes» = told p 1; order = told p 2; major = told p 3; minor = told p 4; length = told p 5 }
+    record { refusal = refusal p; edition = toldAt p 0; «pointer_bytes» = toldAt p 1; order = toldAt p 2; major = toldAt p 3; minor = toldAt p 4; length = toldAt p 5 }
 
 -- the rows needed where the table is too short; then the header, the number of rows, the offset after the end mark, and the counts of the last DNA1
 abbrev pub readOut : Paper → BlendRead
@@ -58,23 +58,23 @@ readOut p =
     record {
       refusal = refusal p;
       needed = carried p 0;
-      edition = told p 0;
-      «pointer_bytes» = told p 1;
-      order = told p 2;
-      major = told p 3;
-      minor = told p 4;
-      rows = told p 5;
-      end = told p 6;
-      names = told p 7;
-      types = told p 8;
-      structs = told p 9;
-      fields = told p 10;
+      edition = toldAt p 0;
+      «pointer_bytes» = toldAt p 1;
+      order = toldAt p 2;
+      major = toldAt p 3;
+      minor = toldAt p 4;
+      rows = toldAt p 5;
+      end = toldAt p 6;
+      names = toldAt p 7;
+      types = toldAt p 8;
+      structs = toldAt p 9;
+      fields = toldAt p 10;
     }
 
 -- the first table that is too short, 1 to 4, and the rows that it needs; the four counts
 abbrev pub catalogueOut : Paper → BlendCatalogue
 catalogueOut p =
-    record { refusal = refusal p; table = carried p 0; needed = carried p 1; names = told p 0; types = told p 1; structs = told p 2; fields = told p 3 }
+    record { refusal = refusal p; table = carried p 0; needed = carried p 1; names = toldAt p 0; types = toldAt p 1; structs = toldAt p 2; fields = toldAt p 3 }
 
 -- what `blend_catalogue` promises of a payload's reading: the answer, and the four tables afterwards, as `dna` fills them
 pub record Catalogued (o : Outcome Dna) (r : BlendCatalogue) (names types structs fields names′ types′ structs′ fields′ : List ℕ) : Type 0 where
@@ -150,4 +150,4 @@ pointerOut (refuses n vs) = record { refusal = n; kind = 0; row = 0 }
 
 -- a width, or a value's bits as an unsigned number
 abbrev pub valueOut : Paper → BlendValue
-valueOut p = record { refusal = refusal p; value = told p 0 }
+valueOut p = record { refusal = refusal p; value = toldAt p 0 }

@@ -1,25 +1,26 @@
 // The library for other languages: numbers and slices in, a struct of numbers by value out. Each function calls one of the reader's and tells its answer
 // in numbers, refusals by document 01's; the contract says so by the reader's own definitions. A slice crosses as a pointer and a length. blend.h says what each
 // function is for.
-use blend::FileFormat;
-use blend::Header;
 use blend::Row;
 use blend::blend::BlendAnswer;
-use blend::blend::HeaderAnswer;
 use blend::blend::RawBlend;
 use blend::blend::blend;
-use blend::blend::header;
+use bytes::Endianness;
+use bytes::Fault;
+use bytes::PointerSize;
 use dna::dna::DnaTables;
 use dna::dna::dna;
 use field::field::Declarator;
 use field::field::FieldInfo;
 use field::field::FieldWidth;
 use field::field::ParsedField;
-use field::field::Place;
+use field::field::Span;
 use field::field::parse_field;
 use field::field::width;
-use primitive::Endianness;
-use primitive::PointerSize;
+use header::FileFormat;
+use header::Header;
+use header::blend::HeaderAnswer;
+use header::blend::header;
 use primitive::primitive::ValueU8;
 use primitive::primitive::ValueU16;
 use primitive::primitive::ValueU32;
@@ -35,15 +36,17 @@ use runtime::runtime::view;
 ghost use mathlib.Core.Path.{_≡_};
 ghost use mathlib.Core.List.{[], _∷_};
 ghost use lib.ListN.{length};
-ghost use Rattle.primitive.specs.Paper.Paper.{refuses};
+ghost use Rattle.bytes.specs.Paper.Paper.{refuses};
 ghost use Rattle.dna.specs.Catalogue as catalogues;
 ghost use Rattle.field.specs.Declarators as declarators;
 ghost use Rattle.blend.specs.Chain as chains;
-ghost use Rattle.blend.specs.Header as headers;
+ghost use Rattle.header.specs.Header as headers;
 ghost use Rattle.exports.specs.Exports as rules;
 ghost use Rattle.exports.specs.Calls as calls;
 
 // In every struct `refusal` is 0, or the number of a refusal, and then every number that it does not carry is 0.
+
+/// A file's header in numbers.
 #[repr(C)]
 pub struct BlendHeader {
     pub refusal: u64,
@@ -55,6 +58,7 @@ pub struct BlendHeader {
     pub length: u64,
 }
 
+/// What a reading of a file answers.
 #[repr(C)]
 pub struct BlendRead {
     pub refusal: u64,
@@ -72,6 +76,7 @@ pub struct BlendRead {
     pub fields: u64,
 }
 
+/// What a reading of a catalogue answers.
 #[repr(C)]
 pub struct BlendCatalogue {
     pub refusal: u64,
@@ -83,6 +88,7 @@ pub struct BlendCatalogue {
     pub fields: u64,
 }
 
+/// A field's declarator in numbers.
 #[repr(C)]
 pub struct BlendField {
     pub refusal: u64,
@@ -97,6 +103,7 @@ pub struct BlendField {
     pub dimensions: u64,
 }
 
+/// Where a row's payload lies.
 #[repr(C)]
 pub struct BlendView {
     pub refusal: u64,
@@ -104,6 +111,7 @@ pub struct BlendView {
     pub length: u64,
 }
 
+/// What an address points to.
 #[repr(C)]
 pub struct BlendPointer {
     pub refusal: u64,
@@ -111,6 +119,7 @@ pub struct BlendPointer {
     pub row: u64,
 }
 
+/// A number that a slice begins with.
 #[repr(C)]
 pub struct BlendValue {
     pub refusal: u64,
@@ -146,6 +155,7 @@ fn order_of(n: u64) -> Endianness
     }
 }
 
+/// A file's header in numbers.
 #[no_mangle]
 pub extern "C" fn blend_header(file: &[u8]) -> BlendHeader
     ensures { λ r. ⌜ calls.«blend_header» (now (file .entry)) r ⌝ }
@@ -225,6 +235,7 @@ fn read_refused(refusal: u64, needed: u64) -> BlendRead
     }
 }
 
+/// Reads a file into a row table.
 #[no_mangle]
 pub extern "C" fn blend_read(file: &[u8], table: &mut [u64]) -> BlendRead
     ensures { λ r. ⌜ calls.«blend_read» (now (file .entry)) (now (table .entry)) r (now (table .exit)) ⌝ }
@@ -232,7 +243,7 @@ pub extern "C" fn blend_read(file: &[u8], table: &mut [u64]) -> BlendRead
     match blend(file, table) {
         BlendAnswer::Is(b) => read_out(b),
         BlendAnswer::Refused(n) => read_refused(n, 0),
-        BlendAnswer::TableTooShort(rows) => read_refused(7, rows as u64),
+        BlendAnswer::TableTooShort(rows) => read_refused(Fault::BLOCK_TABLE_TOO_SHORT, rows as u64),
     }
 }
 
@@ -263,11 +274,16 @@ fn catalogue_out(answer: DnaTables) -> BlendCatalogue
             structs: n.structs,
             fields: n.fields,
         },
-        DnaTables::Malformed => catalogue_refused(2, 0, 0),
-        DnaTables::TableTooShort(which, rows) => catalogue_refused(8, which, rows),
+        DnaTables::Refused(n) => catalogue_refused(n, 0, 0),
+        DnaTables::TableTooShort(which, rows) => catalogue_refused(
+            Fault::CATALOGUE_TABLE_TOO_SHORT,
+            which,
+            rows,
+        ),
     }
 }
 
+/// Reads a DNA1's payload into four tables.
 #[no_mangle]
 pub extern "C" fn blend_catalogue(
     payload: &[u8],
@@ -302,8 +318,8 @@ fn field_refused(refusal: u64, needed: u64) -> BlendField
 
 // A declarator's places, its kind's number and the kind's own numbers.
 fn field_told(
-    name: Place,
-    rest: Place,
+    name: Span,
+    rest: Span,
     kind: u64,
     indirection: u64,
     length: u64,
@@ -367,15 +383,18 @@ fn field_out(d: Declarator) -> BlendField
     }
 }
 
+/// A field's declarator in numbers.
 #[no_mangle]
 pub extern "C" fn blend_field(name: &[u8], dimensions: &mut [u64]) -> BlendField
     ensures { λ r. ⌜ calls.«blend_field» (now (name .entry)) (now (dimensions .entry)) r (now (dimensions .exit)) ⌝ }
 {
     match parse_field(name, dimensions) {
         ParsedField::Is(d) => field_out(d),
-        ParsedField::InvalidArraySize => field_refused(9, 0),
-        ParsedField::ProductTooLarge => field_refused(10, 0),
-        ParsedField::DimensionTableTooShort(n) => field_refused(11, n as u64),
+        ParsedField::Refused(n) => field_refused(n, 0),
+        ParsedField::DimensionTableTooShort(n) => field_refused(
+            Fault::DIMENSION_TABLE_TOO_SHORT,
+            n as u64,
+        ),
     }
 }
 
@@ -418,11 +437,12 @@ fn size_of(bytes: u64) -> PointerSize
     }
 }
 
+/// How many bytes a field takes.
 #[no_mangle]
 pub extern "C" fn blend_width(kind: u64, length: u64, size: u64, pointer_bytes: u64) -> BlendValue
     ensures { λ r. ⌜ calls.«blend_width» kind length size «pointer_bytes» r ⌝ }
 {
-    let none = Place { at: 0, len: 0 };
+    let none = Span { at: 0, len: 0 };
     let d = Declarator {
         name: none,
         rest: none,
@@ -433,13 +453,14 @@ pub extern "C" fn blend_width(kind: u64, length: u64, size: u64, pointer_bytes: 
             refusal: 0,
             value: n,
         },
-        FieldWidth::ProductTooLarge => BlendValue {
-            refusal: 10,
+        FieldWidth::Refused(n) => BlendValue {
+            refusal: n,
             value: 0,
         },
     }
 }
 
+/// Where a row's payload lies in the file.
 #[no_mangle]
 pub extern "C" fn blend_view(file: &[u8], table: &[u64], row: usize) -> BlendView
     ensures { λ r. ⌜ calls.«blend_view» (now (file .entry)) (now (table .entry)) row r ⌝ }
@@ -448,24 +469,25 @@ pub extern "C" fn blend_view(file: &[u8], table: &[u64], row: usize) -> BlendVie
         match view(file, table, row) {
             ViewAnswer::There => BlendView {
                 refusal: 0,
-                at: table[row * Row::NUMBERS + 5],
-                length: table[row * Row::NUMBERS + 6],
+                at: table[row * Row::NUMBERS + Row::PAYLOAD],
+                length: table[row * Row::NUMBERS + Row::LEN],
             },
-            ViewAnswer::NotThere => BlendView {
-                refusal: 13,
+            ViewAnswer::Refused(n) => BlendView {
+                refusal: n,
                 at: 0,
                 length: 0,
             },
         }
     } else {
         BlendView {
-            refusal: 13,
+            refusal: Fault::NOT_THERE,
             at: 0,
             length: 0,
         }
     }
 }
 
+/// The row that an address points to.
 #[no_mangle]
 pub extern "C" fn blend_lookup(table: &[u64], rows: usize, address: u64) -> BlendPointer
     ensures { λ r. ⌜ calls.«blend_lookup» (now (table .entry)) rows address r ⌝ }
@@ -486,14 +508,15 @@ pub extern "C" fn blend_lookup(table: &[u64], rows: usize, address: u64) -> Blen
             kind: 2,
             row: 0,
         },
-        Pointer::NotThere => BlendPointer {
-            refusal: 13,
+        Pointer::Refused(n) => BlendPointer {
+            refusal: n,
             kind: 0,
             row: 0,
         },
     }
 }
 
+/// The unsigned number of one byte that a slice begins with.
 #[no_mangle]
 pub extern "C" fn blend_u8(slice: &[u8], order: u64) -> BlendValue
     ensures { λ r. ⌜ calls.«blend_u8» (now (slice .entry)) order r ⌝ }
@@ -503,13 +526,14 @@ pub extern "C" fn blend_u8(slice: &[u8], order: u64) -> BlendValue
             refusal: 0,
             value: n as u64,
         },
-        ValueU8::Short => BlendValue {
-            refusal: 12,
+        ValueU8::Refused(n) => BlendValue {
+            refusal: n,
             value: 0,
         },
     }
 }
 
+/// The unsigned number of two bytes that a slice begins with.
 #[no_mangle]
 pub extern "C" fn blend_u16(slice: &[u8], order: u64) -> BlendValue
     ensures { λ r. ⌜ calls.«blend_u16» (now (slice .entry)) order r ⌝ }
@@ -519,13 +543,14 @@ pub extern "C" fn blend_u16(slice: &[u8], order: u64) -> BlendValue
             refusal: 0,
             value: n as u64,
         },
-        ValueU16::Short => BlendValue {
-            refusal: 12,
+        ValueU16::Refused(n) => BlendValue {
+            refusal: n,
             value: 0,
         },
     }
 }
 
+/// The unsigned number of four bytes that a slice begins with.
 #[no_mangle]
 pub extern "C" fn blend_u32(slice: &[u8], order: u64) -> BlendValue
     ensures { λ r. ⌜ calls.«blend_u32» (now (slice .entry)) order r ⌝ }
@@ -535,13 +560,14 @@ pub extern "C" fn blend_u32(slice: &[u8], order: u64) -> BlendValue
             refusal: 0,
             value: n as u64,
         },
-        ValueU32::Short => BlendValue {
-            refusal: 12,
+        ValueU32::Refused(n) => BlendValue {
+            refusal: n,
             value: 0,
         },
     }
 }
 
+/// The unsigned number of eight bytes that a slice begins with.
 #[no_mangle]
 pub extern "C" fn blend_u64(slice: &[u8], order: u64) -> BlendValue
     ensures { λ r. ⌜ calls.«blend_u64» (now (slice .entry)) order r ⌝ }
@@ -551,8 +577,8 @@ pub extern "C" fn blend_u64(slice: &[u8], order: u64) -> BlendValue
             refusal: 0,
             value: n,
         },
-        ValueU64::Short => BlendValue {
-            refusal: 12,
+        ValueU64::Refused(n) => BlendValue {
+            refusal: n,
             value: 0,
         },
     }

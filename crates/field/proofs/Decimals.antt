@@ -9,8 +9,8 @@ use native.Mathlib.Omega.{arith}
 use borrow.Author.Tests.{le-leb, lt-leb, eq-eqb, ne-eqb}
 use lib.ListN.{length, getD, drop, drop-of-length-le}
 use lib.Seq.{drop-cons}
-use Rattle.primitive.specs.Ascii.{isDigit}
-use Rattle.primitive.proofs.Tests.{held, failed}
+use Rattle.bytes.specs.Ascii.{isDigit}
+use Rattle.bytes.proofs.Tests.{held, failed}
 use Rattle.field.specs.Declarators.{most, digits, atMost, unsigned, decimal}
 
 -- a number that is too large stays so

@@ -12,17 +12,17 @@ use lib.Dec.{eqb}
 use borrow.Author.Tests.{lt-ltb, le-ltb, ltb-true, eq-eqb, ne-eqb}
 use lib.ListN.{length, getD, take, drop, set, drop-of-length-le, length-drop, length-set}
 use lib.Seq.{drop-cons, drop-drop, length-take-le}
-use Rattle.primitive.specs.Ascii.{ascii}
-use Rattle.primitive.specs.Reader.{before, stands}
-use Rattle.primitive.proofs.Filling.{partly, partly-more, partly-all}
-use Rattle.primitive.proofs.Marks.{before-le}
-use Rattle.primitive.proofs.Reading.{to-the-end}
-use Rattle.primitive.proofs.Tests.{held, failed}
+use Rattle.bytes.specs.Ascii.{ascii}
+use Rattle.bytes.specs.Reader.{before, stands}
+use Rattle.bytes.proofs.Filling.{partly, partly-more, partly-all}
+use Rattle.bytes.proofs.Marks.{before-le}
+use Rattle.bytes.proofs.Reading.{to-the-end}
+use Rattle.bytes.proofs.Tests.{held, failed}
 use Rattle.field.specs.declared.field.Decimal.{Decimal}
 use Rattle.field.specs.declared.field.Group.{Group}
 use Rattle.field.specs.declared.field.Groups.{Groups}
 use Rattle.field.specs.declared.field.Product.{Product}
-use Rattle.field.specs.Declarators.{first, follows, stars, complete, content, past, decimal, taken, groups, spanned, numbers, join}
+use Rattle.field.specs.Declarators.{first, follows, stars, complete, content, afterGroup, decimal, taken, groups, spanned, numbers, join}
 use Rattle.field.specs.Helpers.{decimalOf, groupBy, groupOf, timesOf, finishBy, finish, leading, leadingBy}
 
 module _ (c : ℕ) (s : List ℕ) (at : ℕ) where
@@ -80,16 +80,16 @@ none-taken zero l h = refl
 none-taken (suc n) [] h = refl
 none-taken (suc n) (x ∷ xs) h = absurd (omega arith)
 
-one-turn : (m n : ℕ) (l : List ℕ) → taken m (past l) ≡ taken n (past l) → taken (suc m) l ≡ taken (suc n) l
+one-turn : (m n : ℕ) (l : List ℕ) → taken m (afterGroup l) ≡ taken n (afterGroup l) → taken (suc m) l ≡ taken (suc n) l
 unfolding taken
 one-turn m n l e = ap (λ (gs : List (List ℕ)). elim (complete l) as (λ (c : Bool). List (List ℕ)) [ true ↦ content l ∷ gs | false ↦ [] ]) e
 
 same-taken : (m n : ℕ) (l : List ℕ) → length l ≤ m → length l ≤ n → taken m l ≡ taken n l
 same-taken zero n l h k = none-taken zero l h ∙ sym (none-taken n l h)
 same-taken (suc m) zero l h k = none-taken (suc m) l k ∙ sym (none-taken zero l k)
-same-taken (suc m) (suc n) l h k = one-turn m n l (same-taken m n (past l) (omega (arith, shorter)) (omega (arith, shorter)))
+same-taken (suc m) (suc n) l h k = one-turn m n l (same-taken m n (afterGroup l) (omega (arith, shorter)) (omega (arith, shorter)))
   where
-    shorter : length (past l) ≤ length l - 1
+    shorter : length (afterGroup l) ≤ length l - 1
     shorter = omega (arith, length-drop (first (code "]") l 1 + 1) l)
 
 no-group : (l : List ℕ) → complete l ≡ false → groups l ≡ []
@@ -97,12 +97,12 @@ unfolding groups taken
 no-group [] t = refl
 no-group (x ∷ xs) t = failed _ _ t
 
-one-group : (l : List ℕ) → complete l ≡ true → groups l ≡ content l ∷ groups (past l)
+one-group : (l : List ℕ) → complete l ≡ true → groups l ≡ content l ∷ groups (afterGroup l)
 unfolding groups taken
 one-group [] t = cc
 one-group (x ∷ xs) t =
-    let shorter : length (past (x ∷ xs)) ≤ length xs = omega (arith, length-drop (first (code "]") (x ∷ xs) 1 + 1) (x ∷ xs)) in
-    held _ _ t ∙ ap (λ (gs : List (List ℕ)). content (x ∷ xs) ∷ gs) (same-taken (length xs) (length (past (x ∷ xs))) (past (x ∷ xs)) shorter (le-refl _))
+    let shorter : length (afterGroup (x ∷ xs)) ≤ length xs = omega (arith, length-drop (first (code "]") (x ∷ xs) 1 + 1) (x ∷ xs)) in
+    held _ _ t ∙ ap (λ (gs : List (List ℕ)). content (x ∷ xs) ∷ gs) (same-taken (length xs) (length (afterGroup (x ∷ xs))) (afterGroup (x ∷ xs)) shorter (le-refl _))
 
 -- what the group at the front tells of the bytes
 group-none : (n : ℕ) (o : Option ℕ) → groupBy n o ≡ Group.Bad → o ≡ none
@@ -311,10 +311,10 @@ stars-le (b ∷ bs) = go (eqb b 42) (stars-le bs)
 taken-within : (n : ℕ) (l : List ℕ) → spanned (taken n l) ≤ length l
 unfolding taken spanned
 taken-within zero l = omega arith
-taken-within (suc n) l = go (complete l) refl (taken-within n (past l))
+taken-within (suc n) l = go (complete l) refl (taken-within n (afterGroup l))
   where
-    go : (b : Bool) → complete l ≡ b → spanned (taken n (past l)) ≤ length (past l)
-        → spanned (elim b as (λ (c : Bool). List (List ℕ)) [ true ↦ content l ∷ taken n (past l) | false ↦ [] ]) ≤ length l
+    go : (b : Bool) → complete l ≡ b → spanned (taken n (afterGroup l)) ≤ length (afterGroup l)
+        → spanned (elim b as (λ (c : Bool). List (List ℕ)) [ true ↦ content l ∷ taken n (afterGroup l) | false ↦ [] ]) ≤ length l
     go true t h = omega (arith, content-length l t, closes l t, length-drop (first (code "]") l 1 + 1) l)
     go false t h = omega arith
 

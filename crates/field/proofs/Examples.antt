@@ -1,8 +1,8 @@
 -- The rules at small inputs, computed.
 use mathlib.Core.List.{[], _∷_}
 use mathlib.Core.Path.{_≡_, refl}
-use Rattle.primitive.specs.Ascii.{ascii}
-use Rattle.primitive.specs.Paper.Paper.{accepts, refuses}
+use Rattle.bytes.specs.Ascii.{ascii}
+use Rattle.bytes.specs.Paper.Paper.{accepts, refuses}
 use Rattle.field.specs.Declarators.{isFunction, taken, groups, spanned, digits, decimal, numbers, product, pointerOrValue, declared, scannedAs, parsedAs, filledBy}
 
 -- an array with no complete bracket; no number; a sign; a pointer array

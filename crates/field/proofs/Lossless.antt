@@ -1,18 +1,18 @@
--- The papers of the answers lose nothing: two answers that are told alike are the same answer.
+-- The papers of the answers lose nothing: two answers that are toldAs alike are the same answer.
 use Prim.Native.Nat.{ℕ}
 use mathlib.Core.List.{List}
 use mathlib.Core.Path.{_≡_, sym, _∙_, ap}
 use native.Mathlib.Omega.{arith}
-use Rattle.primitive.specs.Paper.Paper.{refuses}
+use Rattle.bytes.specs.Paper.Paper.{refuses}
 use Rattle.field.specs.declared.field.Declarator as records
 use Rattle.field.specs.declared.field.FieldInfo.{FieldInfo}
 use Rattle.field.specs.declared.field.FieldWidth.{FieldWidth}
 use Rattle.field.specs.declared.field.FnPointerField.{FnPointerField}
 use Rattle.field.specs.declared.field.ParsedField.{ParsedField}
-use Rattle.field.specs.declared.field.Place as places
+use Rattle.field.specs.declared.field.Span as places
 use Rattle.field.specs.Declarators.{paperKind, paperDeclarator, paperField, paperFunction, paperWidth}
 
-place-one : (p q : places.Place) → p .at ≡ q .at → p .len ≡ q .len → p ≡ q
+place-one : (p q : places.Span) → p .at ≡ q .at → p .len ≡ q .len → p ≡ q
 place-one p q a l = ap (λ (n : ℕ). record { at = n; len = p .len }) a ∙ ap (λ (n : ℕ). record { at = q .at; len = n }) l
 
 -- equal papers of two kinds at two pairs of places
@@ -44,15 +44,15 @@ kind-one FieldInfo.FnPointer (FieldInfo.Pointer n2) a b c d a′ b′ c′ d′ 
 kind-one FieldInfo.FnPointer (FieldInfo.PointerArray n2 l2 d2) a b c d a′ b′ c′ d′ h = (cc, cc, cc, cc, cc)
 kind-one FieldInfo.FnPointer FieldInfo.FnPointer a b c d a′ b′ c′ d′ h = (cc, cc, cc, cc, cc)
 
-wholeDeclarator : (d e : records.Declarator) → paperDeclarator d ≡ paperDeclarator e → d ≡ e
-wholeDeclarator d e h =
+whole-declarator : (d e : records.Declarator) → paperDeclarator d ≡ paperDeclarator e → d ≡ e
+whole-declarator d e h =
     let w = kind-one (d .kind) (e .kind) _ _ _ _ _ _ _ _ h in
     let n : d .name ≡ e .name = place-one (d .name) (e .name) (w .1) (w .2) in
     let r : d .rest ≡ e .rest = place-one (d .rest) (e .rest) (w .3) (w .4) in
     ap (λ (k : FieldInfo). record { name = d .name; rest = d .rest; kind = k }) (w .0)
-    ∙ ap (λ (p : places.Place). record { name = p; rest = d .rest; kind = e .kind }) n ∙ ap (λ (p : places.Place). record { name = e .name; rest = p; kind = e .kind }) r
+    ∙ ap (λ (p : places.Span). record { name = p; rest = d .rest; kind = e .kind }) n ∙ ap (λ (p : places.Span). record { name = e .name; rest = p; kind = e .kind }) r
 
--- no declarator is told as a refusal
+-- no declarator is toldAs as a refusal
 told-apart : (k : FieldInfo) (a b c d n : ℕ) (vs : List ℕ) → paperKind k (a, b) (c, d) ≡ refuses n vs → ⊥
 told-apart FieldInfo.Value a b c d n vs h = let z : _≡_ {A = ℕ} 0 1 = cc in omega arith
 told-apart (FieldInfo.ValueArray l1 d1) a b c d n vs h = let z : _≡_ {A = ℕ} 0 1 = cc in omega arith
@@ -60,32 +60,25 @@ told-apart (FieldInfo.Pointer n1) a b c d n vs h = let z : _≡_ {A = ℕ} 0 1 =
 told-apart (FieldInfo.PointerArray n1 l1 d1) a b c d n vs h = let z : _≡_ {A = ℕ} 0 1 = cc in omega arith
 told-apart FieldInfo.FnPointer a b c d n vs h = let z : _≡_ {A = ℕ} 0 1 = cc in omega arith
 
-pub wholeField : (a b : ParsedField) → paperField a ≡ paperField b → a ≡ b
-wholeField (ParsedField.Is x) (ParsedField.Is y) h = ap ParsedField.Is (wholeDeclarator x y h)
-wholeField (ParsedField.Is x) ParsedField.InvalidArraySize h = absurd (told-apart (x .kind) _ _ _ _ _ _ h)
-wholeField (ParsedField.Is x) ParsedField.ProductTooLarge h = absurd (told-apart (x .kind) _ _ _ _ _ _ h)
-wholeField (ParsedField.Is x) (ParsedField.DimensionTableTooShort y) h = absurd (told-apart (x .kind) _ _ _ _ _ _ h)
-wholeField ParsedField.InvalidArraySize (ParsedField.Is y) h = absurd (told-apart (y .kind) _ _ _ _ _ _ (sym h))
-wholeField ParsedField.InvalidArraySize ParsedField.InvalidArraySize h = cc
-wholeField ParsedField.InvalidArraySize ParsedField.ProductTooLarge h = cc
-wholeField ParsedField.InvalidArraySize (ParsedField.DimensionTableTooShort y) h = cc
-wholeField ParsedField.ProductTooLarge (ParsedField.Is y) h = absurd (told-apart (y .kind) _ _ _ _ _ _ (sym h))
-wholeField ParsedField.ProductTooLarge ParsedField.InvalidArraySize h = cc
-wholeField ParsedField.ProductTooLarge ParsedField.ProductTooLarge h = cc
-wholeField ParsedField.ProductTooLarge (ParsedField.DimensionTableTooShort y) h = cc
-wholeField (ParsedField.DimensionTableTooShort x) (ParsedField.Is y) h = absurd (told-apart (y .kind) _ _ _ _ _ _ (sym h))
-wholeField (ParsedField.DimensionTableTooShort x) ParsedField.InvalidArraySize h = cc
-wholeField (ParsedField.DimensionTableTooShort x) ParsedField.ProductTooLarge h = cc
-wholeField (ParsedField.DimensionTableTooShort x) (ParsedField.DimensionTableTooShort y) h = cc
+pub whole-field : (a b : ParsedField) → paperField a ≡ paperField b → a ≡ b
+whole-field (ParsedField.Is x) (ParsedField.Is y) h = ap ParsedField.Is (whole-declarator x y h)
+whole-field (ParsedField.Is x) (ParsedField.Refused n) h = absurd (told-apart (x .kind) _ _ _ _ _ _ h)
+whole-field (ParsedField.Is x) (ParsedField.DimensionTableTooShort y) h = absurd (told-apart (x .kind) _ _ _ _ _ _ h)
+whole-field (ParsedField.Refused m) (ParsedField.Is y) h = absurd (told-apart (y .kind) _ _ _ _ _ _ (sym h))
+whole-field (ParsedField.Refused m) (ParsedField.Refused n) h = cc
+whole-field (ParsedField.Refused m) (ParsedField.DimensionTableTooShort y) h = cc
+whole-field (ParsedField.DimensionTableTooShort x) (ParsedField.Is y) h = absurd (told-apart (y .kind) _ _ _ _ _ _ (sym h))
+whole-field (ParsedField.DimensionTableTooShort x) (ParsedField.Refused n) h = cc
+whole-field (ParsedField.DimensionTableTooShort x) (ParsedField.DimensionTableTooShort y) h = cc
 
-pub wholeFunction : (a b : FnPointerField) → paperFunction a ≡ paperFunction b → a ≡ b
-wholeFunction (FnPointerField.Is x) (FnPointerField.Is y) h = ap FnPointerField.Is (wholeDeclarator x y h)
-wholeFunction (FnPointerField.Is x) FnPointerField.Malformed h = absurd (told-apart (x .kind) _ _ _ _ _ _ h)
-wholeFunction FnPointerField.Malformed (FnPointerField.Is y) h = absurd (told-apart (y .kind) _ _ _ _ _ _ (sym h))
-wholeFunction FnPointerField.Malformed FnPointerField.Malformed h = cc
+pub whole-function : (a b : FnPointerField) → paperFunction a ≡ paperFunction b → a ≡ b
+whole-function (FnPointerField.Is x) (FnPointerField.Is y) h = ap FnPointerField.Is (whole-declarator x y h)
+whole-function (FnPointerField.Is x) (FnPointerField.Refused n) h = absurd (told-apart (x .kind) _ _ _ _ _ _ h)
+whole-function (FnPointerField.Refused m) (FnPointerField.Is y) h = absurd (told-apart (y .kind) _ _ _ _ _ _ (sym h))
+whole-function (FnPointerField.Refused m) (FnPointerField.Refused n) h = cc
 
-pub wholeWidth : (a b : FieldWidth) → paperWidth a ≡ paperWidth b → a ≡ b
-wholeWidth (FieldWidth.Is x) (FieldWidth.Is y) h = cc
-wholeWidth (FieldWidth.Is x) FieldWidth.ProductTooLarge h = cc
-wholeWidth FieldWidth.ProductTooLarge (FieldWidth.Is y) h = cc
-wholeWidth FieldWidth.ProductTooLarge FieldWidth.ProductTooLarge h = cc
+pub whole-width : (a b : FieldWidth) → paperWidth a ≡ paperWidth b → a ≡ b
+whole-width (FieldWidth.Is x) (FieldWidth.Is y) h = cc
+whole-width (FieldWidth.Is x) (FieldWidth.Refused n) h = cc
+whole-width (FieldWidth.Refused m) (FieldWidth.Is y) h = cc
+whole-width (FieldWidth.Refused m) (FieldWidth.Refused n) h = cc

@@ -7,7 +7,7 @@ use native.Mathlib.Nat.{mul-zero, mul-one, mul-assoc, mul-le-mul-left, le-div-if
 use native.Mathlib.Omega.{arith}
 use borrow.Author.Tests.{le-leb, lt-leb, ne-eqb, leb-true, leb-false, eqb-true, eqb-false}
 use lib.Dec.{leb, eqb}
-use Rattle.primitive.proofs.Tests.{held, failed}
+use Rattle.bytes.proofs.Tests.{held, failed}
 use Rattle.field.specs.declared.field.Product.{Product}
 use Rattle.field.specs.Declarators.{most, product}
 use Rattle.field.specs.Helpers.{capped, timesOf, allTimes}

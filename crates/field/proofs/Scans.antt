@@ -9,10 +9,10 @@ use native.Mathlib.Nat.{zero-add, one-mul}
 use native.Mathlib.Omega.{arith}
 use borrow.Author.Tests.{lt-ltb, le-ltb, eq-eqb, ne-eqb}
 use lib.ListN.{length, take, drop, length-drop}
-use Rattle.primitive.specs.Ascii.{ascii}
-use Rattle.primitive.specs.Reader.{stands}
-use Rattle.primitive.proofs.Reading.{to-the-end}
-use Rattle.primitive.proofs.Tests.{held, failed}
+use Rattle.bytes.specs.Ascii.{ascii}
+use Rattle.bytes.specs.Reader.{stands}
+use Rattle.bytes.proofs.Reading.{to-the-end}
+use Rattle.bytes.proofs.Tests.{held, failed}
 use Rattle.field.specs.declared.field.FieldInfo.{FieldInfo}
 use Rattle.field.specs.declared.field.FnPointerField.{FnPointerField}
 use Rattle.field.specs.declared.field.Groups.{Groups}
@@ -41,26 +41,26 @@ some-star-array (suc n) len dimensions z = refl
 
 -- the four tests of a function pointer
 module _ (s : List ℕ) where
-  not-function : isFunction s ≡ false → FnPointerField.Malformed ≡ functionOf s
+  not-function : isFunction s ≡ false → FnPointerField.Refused 2 ≡ functionOf s
   unfolding functionOf
   not-function t = sym (failed _ _ t)
 
-  pub no-opening : stands s 0 (ascii "(*") ≡ false → FnPointerField.Malformed ≡ functionOf s
+  pub no-opening : stands s 0 (ascii "(*") ≡ false → FnPointerField.Refused 2 ≡ functionOf s
   unfolding isFunction
   no-opening t = not-function (rw t)
 
   module _ (t : stands s 0 (ascii "(*") ≡ true) where
-    pub name-open : length s ≤ nameClosed s → FnPointerField.Malformed ≡ functionOf s
+    pub name-open : length s ≤ nameClosed s → FnPointerField.Refused 2 ≡ functionOf s
     unfolding isFunction
     name-open h = not-function (rw (t, le-ltb _ _ h))
 
     module _ (h : nameClosed s < length s) where
-      pub no-args : stands s (nameClosed s + 1) (ascii "(") ≡ false → FnPointerField.Malformed ≡ functionOf s
+      pub no-args : stands s (nameClosed s + 1) (ascii "(") ≡ false → FnPointerField.Refused 2 ≡ functionOf s
       unfolding isFunction
       no-args u = not-function (rw (t, lt-ltb _ _ h, u))
 
       module _ (u : stands s (nameClosed s + 1) (ascii "(") ≡ true) where
-        pub args-open : length s ≤ argsClosed s → FnPointerField.Malformed ≡ functionOf s
+        pub args-open : length s ≤ argsClosed s → FnPointerField.Refused 2 ≡ functionOf s
         unfolding isFunction
         args-open k = not-function (rw (t, lt-ltb _ _ h, u, le-ltb _ _ k))
 

@@ -9,19 +9,19 @@ use native.Mathlib.Omega.{arith}
 use borrow.Author.Tests.{le-leb, lt-leb, le-ltb, lt-ltb, leb-true, leb-false}
 use lib.Dec.{leb, eqb}
 use lib.ListN.{length, take, drop}
-use Rattle.primitive.specs.Paper.Paper.{accepts}
-use Rattle.primitive.specs.Refusals.{invalidArraySize, productTooLarge, dimensionTableTooShort}
-use Rattle.primitive.specs.Tables.{over}
-use Rattle.primitive.proofs.Filling.{accepted-written}
-use Rattle.primitive.proofs.Reading.{to-the-end}
-use Rattle.primitive.proofs.Tests.{held, failed}
+use Rattle.bytes.specs.Paper.Paper.{accepts}
+use Rattle.bytes.specs.Refusals.{invalidArraySize, productTooLarge, dimensionTableTooShort}
+use Rattle.bytes.specs.Tables.{over}
+use Rattle.bytes.proofs.Filling.{accepted-written}
+use Rattle.bytes.proofs.Reading.{to-the-end}
+use Rattle.bytes.proofs.Tests.{held, failed}
 use Rattle.field.specs.declared.field.Declarator as records
 use Rattle.field.specs.declared.field.FieldInfo.{FieldInfo}
 use Rattle.field.specs.declared.field.FnPointerField.{FnPointerField}
-use Rattle.field.specs.declared.field.Place as places
+use Rattle.field.specs.declared.field.Span as places
 use Rattle.field.specs.declared.field.Product.{Product}
 use Rattle.field.specs.declared.field.Scan.{Scan}
-use Rattle.field.specs.Declarators.{Place, Said, most, stars, nameEnd, groups, numbers, product, isFunction, functionPointer, arrayOf, pointerOrValue, declared, scannedAs, parsedAs, dimensionsOf, filledBy, functionAs, paperKind, paperDeclarator, paperFunction, arrayTold, widthTold}
+use Rattle.field.specs.Declarators.{Span, Said, most, stars, nameEnd, groups, numbers, product, isFunction, functionPointer, arrayOf, pointerOrValue, declared, scannedAs, parsedAs, dimensionsOf, filledBy, functionAs, paperKind, paperDeclarator, paperFunction, arrayTold, widthTold}
 use Rattle.field.specs.Declarators.Said.{function, plain, array, invalid}
 use Rattle.field.specs.Helpers.{capped, timesOf, placeOf, declaratorOf, arrayKind, leading, scanOf, functionOf}
 use Rattle.field.proofs.Dimensions.{first-le, stars-le, leading-all}
@@ -48,9 +48,9 @@ module _ (s : List ℕ) where
           let e = h ∙ failed _ _ t in
           cc
 
-  pub as-other : FnPointerField.Malformed ≡ functionOf s → scanOf (pointerOrValue s) ≡ scanOf (declared s)
+  pub as-other : (m : ℕ) → FnPointerField.Refused m ≡ functionOf s → scanOf (pointerOrValue s) ≡ scanOf (declared s)
   unfolding functionOf declared
-  as-other h = go (isFunction s) refl
+  as-other m h = go (isFunction s) refl
     where
       go : (b : Bool) → isFunction s ≡ b → scanOf (pointerOrValue s) ≡ scanOf (declared s)
       go true t =
@@ -59,7 +59,7 @@ module _ (s : List ℕ) where
       go false t = sym (ap scanOf (failed _ _ t))
 
 -- a declarator is no refusal
-accepted : (k : FieldInfo) (name rest : Place) → (kind : ℕ) × (vs : List ℕ) × (paperKind k name rest ≡ accepts kind vs)
+accepted : (k : FieldInfo) (name rest : Span) → (kind : ℕ) × (vs : List ℕ) × (paperKind k name rest ≡ accepts kind vs)
 accepted FieldInfo.Value name rest = (_, _, refl)
 accepted (FieldInfo.ValueArray len dimensions) name rest = (_, _, refl)
 accepted (FieldInfo.Pointer n) name rest = (_, _, refl)
@@ -113,9 +113,9 @@ pub invalid-parsed : (q : Said) (room : ℕ) → Scan.Invalid ≡ scanOf q → i
 invalid-parsed q room h = rw (invalid-told q h)
 
 -- an array: its places, its dimensions and its product
-pub record Arrayed (q : Said) (n : ℕ) (name rest : places.Place) (count : ℕ) (p : Product) : Type 0 where
-  pub at-name : Place
-  pub at-rest : Place
+pub record Arrayed (q : Said) (n : ℕ) (name rest : places.Span) (count : ℕ) (p : Product) : Type 0 where
+  pub at-name : Span
+  pub at-rest : Span
   pub dims : List ℕ
   pub is : q ≡ array n at-name at-rest dims
   pub its-name : name ≡ placeOf at-name
@@ -123,7 +123,7 @@ pub record Arrayed (q : Said) (n : ℕ) (name rest : places.Place) (count : ℕ)
   pub its-count : count ≡ length dims
   pub its-product : p ≡ capped (product dims)
 
-pub arrayed : (q : Said) (n : ℕ) (name rest : places.Place) (count : ℕ) (p : Product) → Scan.Array n name rest count p ≡ scanOf q → Arrayed q n name rest count p
+pub arrayed : (q : Said) (n : ℕ) (name rest : places.Span) (count : ℕ) (p : Product) → Scan.Array n name rest count p ≡ scanOf q → Arrayed q n name rest count p
 unfolding scanOf
 arrayed (function a b) n name rest count p h =
     record { at-name = a; at-rest = b; dims = []; is = cc; its-name = cc; its-rest = cc; its-count = cc; its-product = cc }
@@ -167,12 +167,12 @@ module _ (u e : ℕ) where
   pub wide-not : Product.Over ≡ timesOf (Product.Is u) e → productTooLarge ≡ widthTold (u * e)
   wide-not h = sym (failed _ _ (lt-leb _ _ (capped-not (u * e) h)))
 
-array-paper : (n len count : ℕ) (name rest : Place) (ds : List ℕ) → len ≡ product ds → count ≡ length ds
+array-paper : (n len count : ℕ) (name rest : Span) (ds : List ℕ) → len ≡ product ds → count ≡ length ds
     → paperDeclarator (declaratorOf name rest (arrayKind n len count)) ≡ arrayTold n name rest ds
 array-paper zero len count name rest ds e f = rw (e, f)
 array-paper (suc n) len count name rest ds e f = rw (e, f)
 
-module _ (q : Said) (n : ℕ) (name rest : places.Place) (count : ℕ) (p : Product) (a : Arrayed q n name rest count p) where
+module _ (q : Said) (n : ℕ) (name rest : places.Span) (count : ℕ) (p : Product) (a : Arrayed q n name rest count p) where
   pub array-scanned : (len : ℕ) → Product.Is len ≡ p → (kind : FieldInfo) → kind ≡ arrayKind n len count
       → paperDeclarator (record { name = name; rest = rest; kind = kind }) ≡ scannedAs q
   array-scanned len h kind k =
@@ -192,16 +192,16 @@ module _ (q : Said) (n : ℕ) (name rest : places.Place) (count : ℕ) (p : Prod
   array-filled t h len i =
       let w = accepted (arrayKind n len count) (a .at-name) (a .at-rest) in
       let e : dimensionsOf q ≡ a .dims = ap dimensionsOf (a .is) in
-      let told : paperKind (arrayKind n len count) (a .at-name) (a .at-rest) ≡ scannedAs q = rw (a .its-name, a .its-rest) at (array-scanned len i (arrayKind n len count) refl) in
-      ap (λ (ds : List ℕ). over ds t) (sym e) ∙ accepted-written (parsedAs q (length t)) (w .0) (w .1) (dimensionsOf q) t (sym (w .2) ∙ told ∙ array-room (length t) h)
+      let toldAs : paperKind (arrayKind n len count) (a .at-name) (a .at-rest) ≡ scannedAs q = rw (a .its-name, a .its-rest) at (array-scanned len i (arrayKind n len count) refl) in
+      ap (λ (ds : List ℕ). over ds t) (sym e) ∙ accepted-written (parsedAs q (length t)) (w .0) (w .1) (dimensionsOf q) t (sym (w .2) ∙ toldAs ∙ array-room (length t) h)
 
 -- where an array's groups stand, and what numbers they hold
-pub record Origin (s : List ℕ) (name : Place) (ds : List ℕ) : Type 0 where
+pub record Origin (s : List ℕ) (name : Span) (ds : List ℕ) : Type 0 where
   pub from : name .0 + name .1 ≡ nameEnd s
   pub inside : nameEnd s ≤ length s
   pub held-there : leading (groups (drop (nameEnd s) s)) ≡ ds
 
-module _ (s : List ℕ) (n : ℕ) (name rest : Place) (ds : List ℕ) where
+module _ (s : List ℕ) (n : ℕ) (name rest : Span) (ds : List ℕ) where
   by-numbers : (o : Option (List ℕ)) → numbers (groups (drop (nameEnd s) s)) ≡ o → arrayOf s (groups (drop (nameEnd s) s)) o ≡ array n name rest ds → Origin s name ds
   by-numbers none t h =
       let z : _≡_ {A = ℕ} 0 1 = cc in
@@ -230,7 +230,7 @@ module _ (s : List ℕ) (n : ℕ) (name rest : Place) (ds : List ℕ) where
           absurd (omega arith)
       go false false t u = by-numbers (numbers (groups (drop (nameEnd s) s))) refl (sym (failed _ _ u) ∙ sym (failed _ _ t) ∙ h)
 
-module _ (s : List ℕ) (n : ℕ) (name rest : places.Place) (count : ℕ) (p : Product) (a : Arrayed (declared s) n name rest count p) where
+module _ (s : List ℕ) (n : ℕ) (name rest : places.Span) (count : ℕ) (p : Product) (a : Arrayed (declared s) n name rest count p) where
   its-origin : Origin s (a .at-name) (a .dims)
   its-origin = origin s n (a .at-name) (a .at-rest) (a .dims) (a .is)
 

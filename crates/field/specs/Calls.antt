@@ -1,10 +1,10 @@
--- What each public call promises, by its name (crates/primitive/specs/Calls.antt says how to read it). A table that is lent to write in stands for what it held, and
+-- What each public call promises, by its name (crates/bytes/specs/Calls.antt says how to read it). A table that is lent to write in stands for what it held, and
 -- primed for what it holds afterwards.
 use Prim.Native.Nat.{ℕ}
 use mathlib.Core.List.{List}
 use mathlib.Core.Path.{_≡_}
 use lib.ListN.{length}
-use Rattle.primitive.specs.declared.PointerSize.{PointerSize}
+use Rattle.bytes.specs.declared.PointerSize.{PointerSize}
 use Rattle.field.specs.declared.field.Declarator.{Declarator}
 use Rattle.field.specs.declared.field.FnPointerField.{FnPointerField}
 use Rattle.field.specs.declared.field.ParsedField.{ParsedField}

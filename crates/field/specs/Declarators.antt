@@ -6,21 +6,21 @@ use mathlib.Core.List.{List, [], _∷_}
 use mathlib.Core.Option.{Option, none, some}
 use lib.Dec.{leb, ltb, eqb}
 use lib.ListN.{length, take, drop}
-use Rattle.primitive.specs.Ascii.{ascii, isDigit}
-use Rattle.primitive.specs.Paper.{Paper}
-use Rattle.primitive.specs.Paper.Paper.{accepts}
-use Rattle.primitive.specs.Reader.{before, stands}
-use Rattle.primitive.specs.Refusals.{malformed, invalidArraySize, productTooLarge, dimensionTableTooShort}
-use Rattle.primitive.specs.Tables.{written}
-use Rattle.primitive.specs.declared.PointerSize.{PointerSize}
-use Rattle.primitive.specs.PointerSize.{pointerBytes}
+use Rattle.bytes.specs.Ascii.{ascii, isDigit}
+use Rattle.bytes.specs.Paper.{Paper}
+use Rattle.bytes.specs.Paper.Paper.{accepts, refuses}
+use Rattle.bytes.specs.Reader.{before, stands}
+use Rattle.bytes.specs.Refusals.{malformed, invalidArraySize, productTooLarge, dimensionTableTooShort}
+use Rattle.bytes.specs.Tables.{written}
+use Rattle.bytes.specs.declared.PointerSize.{PointerSize}
+use Rattle.bytes.specs.PointerSize.{pointerBytes}
 use Rattle.field.specs.declared.field.Declarator as records
 use Rattle.field.specs.declared.field.FieldInfo.{FieldInfo}
 use Rattle.field.specs.declared.field.ParsedField.{ParsedField}
 use Rattle.field.specs.declared.field.FnPointerField.{FnPointerField}
 use Rattle.field.specs.declared.field.FieldWidth.{FieldWidth}
 
--- where the first byte c from `at` on stands (where there is none: the end of s, or `at` itself past the end), and whether there is one
+-- where the first byte c from `at` on stands (where there is none: the end of s, or `at` itself afterGroup the end), and whether there is one
 abbrev pub first : ℕ → List ℕ → ℕ → ℕ
 first c s at = at + before c (drop at s)
 
@@ -28,10 +28,10 @@ abbrev pub follows : ℕ → List ℕ → ℕ → Bool
 follows c s at = ltb (first c s at) (length s)
 
 -- a place of the bytes, an offset and a length, and the place of all from an offset on
-abbrev pub Place : Type 0
-Place = ℕ × ℕ
+abbrev pub Span : Type 0
+Span = ℕ × ℕ
 
-abbrev pub onwards : List ℕ → ℕ → Place
+abbrev pub onwards : List ℕ → ℕ → Span
 onwards s at = (at, length s - at)
 
 -- 1. `(*`, bytes to the first `)`, `)`, `(`, bytes to the first `)`, `)`: function pointer, the first part its name.
@@ -62,13 +62,13 @@ abbrev pub content : List ℕ → List ℕ
 content l = take (first (code "]") l 1 - 1) (drop 1 l)
 
 -- what follows the first group
-abbrev pub past : List ℕ → List ℕ
-past l = drop (first (code "]") l 1 + 1) l
+abbrev pub afterGroup : List ℕ → List ℕ
+afterGroup l = drop (first (code "]") l 1 + 1) l
 
 -- the contents of the groups that l begins with, in order, at most n of them
 unfoldable pub taken : ℕ → List ℕ → List (List ℕ)
 taken zero l = []
-taken (suc n) l = elim (complete l) [ true ↦ content l ∷ taken n (past l) | false ↦ [] ]
+taken (suc n) l = elim (complete l) [ true ↦ content l ∷ taken n (afterGroup l) | false ↦ [] ]
 
 -- all of them: there are never more groups than bytes
 unfoldable pub groups : List ℕ → List (List ℕ)
@@ -116,9 +116,9 @@ product (d ∷ ds) = d * product ds
 
 -- What the bytes say: the name's place, the rest's place, the indirection (0 is no pointer), and of an array its dimensions.
 pub data Said : Type 0 where
-  function : (name rest : Place) → Said
-  plain : (indirection : ℕ) (name rest : Place) → Said
-  array : (indirection : ℕ) (name rest : Place) (dimensions : List ℕ) → Said
+  function : (name rest : Span) → Said
+  plain : (indirection : ℕ) (name rest : Span) → Said
+  array : (indirection : ℕ) (name rest : Span) (dimensions : List ℕ) → Said
   invalid : Said  -- a content that is no number
 
 abbrev pub arrayOf : List ℕ → List (List ℕ) → Option (List ℕ) → Said
@@ -142,20 +142,20 @@ declared s = elim (isFunction s) [ true ↦ functionPointer s | false ↦ pointe
 
 -- On paper: which kind, the name's place, the rest's place, and the kind's own numbers, those it has of indirection, length and number of
 -- dimensions, in that order. 0 is a value, 1 an array of values, 2 a pointer, 3 an array of pointers, 4 a function pointer.
-abbrev pub told : ℕ → Place → Place → List ℕ → Paper
-told kind name rest own = accepts kind (name .0 ∷ name .1 ∷ rest .0 ∷ rest .1 ∷ own)
+abbrev pub toldAs : ℕ → Span → Span → List ℕ → Paper
+toldAs kind name rest own = accepts kind (name .0 ∷ name .1 ∷ rest .0 ∷ rest .1 ∷ own)
 
-abbrev pub plainTold : ℕ → Place → Place → Paper
-plainTold zero name rest = told 0 name rest []
-plainTold (suc n) name rest = told 2 name rest (suc n ∷ [])
+abbrev pub plainTold : ℕ → Span → Span → Paper
+plainTold zero name rest = toldAs 0 name rest []
+plainTold (suc n) name rest = toldAs 2 name rest (suc n ∷ [])
 
-abbrev pub arrayTold : ℕ → Place → Place → List ℕ → Paper
-arrayTold zero name rest ds = told 1 name rest (product ds ∷ length ds ∷ [])
-arrayTold (suc n) name rest ds = told 3 name rest (suc n ∷ product ds ∷ length ds ∷ [])
+abbrev pub arrayTold : ℕ → Span → Span → List ℕ → Paper
+arrayTold zero name rest ds = toldAs 1 name rest (product ds ∷ length ds ∷ [])
+arrayTold (suc n) name rest ds = toldAs 3 name rest (suc n ∷ product ds ∷ length ds ∷ [])
 
 -- What `scan_field` answers, which takes no table and so never gives 11. The exact product must be at most 2^64-1, else 10.
 abbrev pub scannedAs : Said → Paper
-scannedAs (function name rest) = told 4 name rest []
+scannedAs (function name rest) = toldAs 4 name rest []
 scannedAs (plain n name rest) = plainTold n name rest
 scannedAs (array n name rest ds) = elim (leb (product ds) most) [ true ↦ arrayTold n name rest ds | false ↦ productTooLarge ]
 scannedAs invalid = invalidArraySize
@@ -168,7 +168,7 @@ parsedAs (array n name rest ds) room =
     elim (ltb room (length ds)) [ true ↦ dimensionTableTooShort (length ds) | false ↦ scannedAs (array n name rest ds) ]
 parsedAs invalid room = scannedAs invalid
 
--- The numbers fill the table in order, and numbers past those are unchanged; a refusal writes nothing.
+-- The numbers fill the table in order, and numbers afterGroup those are unchanged; a refusal writes nothing.
 abbrev pub dimensionsOf : Said → List ℕ
 dimensionsOf (function name rest) = []
 dimensionsOf (plain n name rest) = []
@@ -183,25 +183,24 @@ unfoldable pub functionAs : List ℕ → Paper
 functionAs s = elim (isFunction s) [ true ↦ scannedAs (functionPointer s) | false ↦ malformed ]
 
 -- The papers of the answers.
-abbrev pub paperKind : FieldInfo → Place → Place → Paper
-paperKind FieldInfo.Value name rest = told 0 name rest []
-paperKind (FieldInfo.ValueArray len dimensions) name rest = told 1 name rest (len ∷ dimensions ∷ [])
-paperKind (FieldInfo.Pointer n) name rest = told 2 name rest (n ∷ [])
-paperKind (FieldInfo.PointerArray n len dimensions) name rest = told 3 name rest (n ∷ len ∷ dimensions ∷ [])
-paperKind FieldInfo.FnPointer name rest = told 4 name rest []
+abbrev pub paperKind : FieldInfo → Span → Span → Paper
+paperKind FieldInfo.Value name rest = toldAs 0 name rest []
+paperKind (FieldInfo.ValueArray len dimensions) name rest = toldAs 1 name rest (len ∷ dimensions ∷ [])
+paperKind (FieldInfo.Pointer n) name rest = toldAs 2 name rest (n ∷ [])
+paperKind (FieldInfo.PointerArray n len dimensions) name rest = toldAs 3 name rest (n ∷ len ∷ dimensions ∷ [])
+paperKind FieldInfo.FnPointer name rest = toldAs 4 name rest []
 
 abbrev pub paperDeclarator : records.Declarator → Paper
 paperDeclarator d = paperKind (d .kind) (d .name .at, d .name .len) (d .rest .at, d .rest .len)
 
 abbrev pub paperField : ParsedField → Paper
 paperField (ParsedField.Is d) = paperDeclarator d
-paperField ParsedField.InvalidArraySize = invalidArraySize
-paperField ParsedField.ProductTooLarge = productTooLarge
+paperField (ParsedField.Refused n) = refuses n []
 paperField (ParsedField.DimensionTableTooShort n) = dimensionTableTooShort n
 
 abbrev pub paperFunction : FnPointerField → Paper
 paperFunction (FnPointerField.Is d) = paperDeclarator d
-paperFunction FnPointerField.Malformed = malformed
+paperFunction (FnPointerField.Refused n) = refuses n []
 
 -- Width: type size for a value, times length for an array; pointer bytes (4 or 8) for a pointer or function pointer, times length for a
 -- pointer array.
@@ -230,4 +229,4 @@ widthAs d size p = widthTold (unitOf (d .kind) size p * lengthOf (d .kind))
 
 abbrev pub paperWidth : FieldWidth → Paper
 paperWidth (FieldWidth.Is n) = accepts 0 (n ∷ [])
-paperWidth FieldWidth.ProductTooLarge = productTooLarge
+paperWidth (FieldWidth.Refused n) = refuses n []

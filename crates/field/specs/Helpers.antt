@@ -6,7 +6,7 @@ use mathlib.Core.List.{List, [], _∷_}
 use mathlib.Core.Option.{Option, none, some}
 use lib.Dec.{leb, eqb}
 use lib.ListN.{length}
-use Rattle.field.specs.declared.field.Place as places
+use Rattle.field.specs.declared.field.Span as places
 use Rattle.field.specs.declared.field.FieldInfo.{FieldInfo}
 use Rattle.field.specs.declared.field.Product.{Product}
 use Rattle.field.specs.declared.field.Decimal.{Decimal}
@@ -15,7 +15,7 @@ use Rattle.field.specs.declared.field.Groups.{Groups}
 use Rattle.field.specs.declared.field.Scan.{Scan}
 use Rattle.field.specs.declared.field.Declarator as records
 use Rattle.field.specs.declared.field.FnPointerField.{FnPointerField}
-use Rattle.field.specs.Declarators.{Place, Said, most, first, onwards, isFunction, nameClosed, argsClosed, complete, content, decimal, groups, numbers, spanned, product}
+use Rattle.field.specs.Declarators.{Span, Said, most, first, onwards, isFunction, nameClosed, argsClosed, complete, content, decimal, groups, numbers, spanned, product}
 use Rattle.field.specs.Declarators.Said.{function, plain, array, invalid}
 
 -- a number as 64 bits hold it, or that they do not
@@ -60,7 +60,7 @@ unfoldable pub leading : List (List ℕ) → List ℕ
 leading [] = []
 leading (c ∷ cs) = leadingBy (decimal c) (leading cs)
 
-abbrev pub placeOf : Place → places.Place
+abbrev pub placeOf : Span → places.Span
 placeOf p = record { at = p .0; len = p .1 }
 
 abbrev pub plainKind : ℕ → FieldInfo
@@ -71,7 +71,7 @@ abbrev pub arrayKind : ℕ → ℕ → ℕ → FieldInfo
 arrayKind zero len dimensions = FieldInfo.ValueArray len dimensions
 arrayKind (suc n) len dimensions = FieldInfo.PointerArray (suc n) len dimensions
 
-abbrev pub declaratorOf : Place → Place → FieldInfo → records.Declarator
+abbrev pub declaratorOf : Span → Span → FieldInfo → records.Declarator
 declaratorOf name rest kind = record { name = placeOf name; rest = placeOf rest; kind = kind }
 
 unfoldable pub scanOf : Said → Scan
@@ -83,4 +83,4 @@ scanOf invalid = Scan.Invalid
 -- the function pointer that bytes are, if they are one
 unfoldable pub functionOf : List ℕ → FnPointerField
 functionOf s =
-    elim (isFunction s) [ true ↦ FnPointerField.Is (declaratorOf (2, nameClosed s - 2) (onwards s (argsClosed s + 1)) FieldInfo.FnPointer) | false ↦ FnPointerField.Malformed ]
+    elim (isFunction s) [ true ↦ FnPointerField.Is (declaratorOf (2, nameClosed s - 2) (onwards s (argsClosed s + 1)) FieldInfo.FnPointer) | false ↦ FnPointerField.Refused 2 ]

@@ -1,7 +1,8 @@
 // Declarators: parsers/field.rs of the Rust, on any bytes, with a lent table for the dimensions and with the widths of fields.
-use primitive::PointerSize;
-use primitive::cursor::before;
-use primitive::cursor::stands_at;
+use bytes::Fault;
+use bytes::PointerSize;
+use bytes::cursor::before;
+use bytes::cursor::stands_at;
 ghost use mathlib.Core.Path.{_≡_};
 ghost use Prim.Native.Nat.{_≤_};
 ghost use mathlib.Core.List.{_++_};
@@ -10,12 +11,13 @@ ghost use Rattle.field.specs.Declarators as rules;
 ghost use Rattle.field.specs.Helpers.{timesOf, decimalOf, groupOf, finish, leading, scanOf, functionOf, plainKind, arrayKind};
 ghost use Rattle.field.specs.Calls as calls;
 
-// An offset in the bytes handed in, and a length.
-pub struct Place {
+/// An offset in the bytes handed in, and a length.
+pub struct Span {
     pub at: usize,
     pub len: usize,
 }
 
+/// What a declarator declares.
 pub enum FieldInfo {
     Value,
     ValueArray {
@@ -33,30 +35,30 @@ pub enum FieldInfo {
     FnPointer,
 }
 
+/// A declarator: its name's place, what is left of it, and what it declares.
 pub struct Declarator {
-    pub name: Place,
-    pub rest: Place,
+    pub name: Span,
+    pub rest: Span,
     pub kind: FieldInfo,
 }
 
-// What parse_field and scan_field answer: the declarator, or refusal 9, 10 or, from parse_field alone, 11 with the number of groups.
+/// What parse_field and scan_field answer: the declarator, or refusal 9, 10 or, from parse_field alone, 11 with the number of groups.
 pub enum ParsedField {
     Is(Declarator),
-    InvalidArraySize,
-    ProductTooLarge,
+    Refused(u64),
     DimensionTableTooShort(usize),
 }
 
-// What fn_pointer answers: the declarator, or refusal 2.
+/// What fn_pointer answers: the declarator, or refusal 2.
 pub enum FnPointerField {
     Is(Declarator),
-    Malformed,
+    Refused(u64),
 }
 
-// What width answers: the number of bytes, or refusal 10.
+/// What width answers: the number of bytes, or refusal 10.
 pub enum FieldWidth {
     Is(u64),
-    ProductTooLarge,
+    Refused(u64),
 }
 
 // A product that 64 bits hold, or that they do not.
@@ -86,7 +88,7 @@ pub(crate) enum Groups {
 // A declarator before the table and the product are looked at.
 pub(crate) enum Scan {
     Plain(Declarator),
-    Array(usize, Place, Place, usize, Product),
+    Array(usize, Span, Span, usize, Product),
     Invalid,
 }
 
@@ -249,25 +251,25 @@ fn function_pointer(name: &[u8]) -> FnPointerField
     ensures { λ r. ⌜ r ≡ functionOf (now (name .entry)) ⌝ }
 {
     if !stands_at(name, 0, b"(*") {
-        return FnPointerField::Malformed;
+        return FnPointerField::Refused(Fault::MALFORMED);
     }
     let close = first(name, b')', 2);
     if name.len() <= close {
-        return FnPointerField::Malformed;
+        return FnPointerField::Refused(Fault::MALFORMED);
     }
     if !stands_at(name, close + 1, b"(") {
-        return FnPointerField::Malformed;
+        return FnPointerField::Refused(Fault::MALFORMED);
     }
     let end = first(name, b')', close + 2);
     if name.len() <= end {
-        return FnPointerField::Malformed;
+        return FnPointerField::Refused(Fault::MALFORMED);
     }
     FnPointerField::Is(Declarator {
-        name: Place {
+        name: Span {
             at: 2,
             len: close - 2,
         },
-        rest: Place {
+        rest: Span {
             at: end + 1,
             len: name.len() - (end + 1),
         },
@@ -304,14 +306,14 @@ fn pointer_or_value(name: &[u8]) -> Scan
 {
     let n = stars(name);
     let end = first(name, b'[', n);
-    let place = Place {
+    let place = Span {
         at: n,
         len: end - n,
     };
     if end == name.len() {
         return Scan::Plain(Declarator {
             name: place,
-            rest: Place {
+            rest: Span {
                 at: end,
                 len: name.len() - end,
             },
@@ -325,7 +327,7 @@ fn pointer_or_value(name: &[u8]) -> Scan
             Scan::Array(
                 n,
                 place,
-                Place {
+                Span {
                     at,
                     len: name.len() - at,
                 },
@@ -341,42 +343,42 @@ fn scanned(name: &[u8]) -> Scan
 {
     match function_pointer(name) {
         FnPointerField::Is(d) => Scan::Plain(d),
-        FnPointerField::Malformed => pointer_or_value(name),
+        FnPointerField::Refused(_) => pointer_or_value(name),
     }
 }
 
-// A function pointer, or refusal 2.
+/// A function pointer, or refusal 2.
 pub fn fn_pointer(name: &[u8]) -> FnPointerField
     ensures { λ r. ⌜ calls.«field::fn_pointer» (now (name .entry)) r ⌝ }
 {
     function_pointer(name)
 }
 
-// The declarator that name is, with no table for the dimensions.
+/// The declarator that name is, with no table for the dimensions.
 pub fn scan_field(name: &[u8]) -> ParsedField
     ensures { λ r. ⌜ calls.«field::scan_field» (now (name .entry)) r ⌝ }
 {
     match scanned(name) {
         Scan::Plain(d) => ParsedField::Is(d),
-        Scan::Invalid => ParsedField::InvalidArraySize,
+        Scan::Invalid => ParsedField::Refused(Fault::INVALID_ARRAY_SIZE),
         Scan::Array(n, place, rest, count, product) => match product {
             Product::Is(len) => ParsedField::Is(Declarator {
                 name: place,
                 rest,
                 kind: array_kind(n, len, count),
             }),
-            Product::Over => ParsedField::ProductTooLarge,
+            Product::Over => ParsedField::Refused(Fault::PRODUCT_TOO_LARGE),
         },
     }
 }
 
-// The declarator that name is; its dimensions fill the table from the front.
+/// The declarator that name is; its dimensions fill the table from the front.
 pub fn parse_field(name: &[u8], dimensions: &mut [u64]) -> ParsedField
     ensures { λ r. ⌜ calls.«field::parse_field» (now (name .entry)) (now (dimensions .entry)) r (now (dimensions .exit)) ⌝ }
 {
     match scanned(name) {
         Scan::Plain(d) => ParsedField::Is(d),
-        Scan::Invalid => ParsedField::InvalidArraySize,
+        Scan::Invalid => ParsedField::Refused(Fault::INVALID_ARRAY_SIZE),
         Scan::Array(n, place, rest, count, product) => {
             if dimensions.len() < count {
                 return ParsedField::DimensionTableTooShort(count);
@@ -391,7 +393,7 @@ pub fn parse_field(name: &[u8], dimensions: &mut [u64]) -> ParsedField
                         kind: array_kind(n, len, count),
                     })
                 }
-                Product::Over => ParsedField::ProductTooLarge,
+                Product::Over => ParsedField::Refused(Fault::PRODUCT_TOO_LARGE),
             }
         }
     }
@@ -438,13 +440,13 @@ fn elements(kind: FieldInfo) -> u64
     }
 }
 
-// How many bytes a field takes, with the size of its type and the pointer size of its file.
+/// How many bytes a field takes, with the size of its type and the pointer size of its file.
 pub fn width(d: Declarator, size: u64, pointer_size: PointerSize) -> FieldWidth
     ensures { λ r. ⌜ calls.«field::width» d size «pointer_size» r ⌝ }
 {
     let kind = d.kind;
     match times(Product::Is(unit(kind, size, pointer_size)), elements(kind)) {
         Product::Is(n) => FieldWidth::Is(n),
-        Product::Over => FieldWidth::ProductTooLarge,
+        Product::Over => FieldWidth::Refused(Fault::PRODUCT_TOO_LARGE),
     }
 }

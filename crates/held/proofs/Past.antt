@@ -14,6 +14,6 @@ after (exit n) = skip
 after return = skip
 after (call f xs d) = skip
 
-abbrev pub past : ℕ → Body → Body
-past zero b = b
-past (suc k) b = past k (after b)
+abbrev pub afterSteps : ℕ → Body → Body
+afterSteps zero b = b
+afterSteps (suc k) b = afterSteps k (after b)

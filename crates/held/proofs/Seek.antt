@@ -3,8 +3,8 @@ use mathlib.Core.Path.{_≡_, refl, sym, _∙_}
 use Prim.Native.Nat.{ℕ, _+_, _-_, _≤_, _<_}
 use mathlib.Core.Bool.{Bool, true, false, not}
 use lib.Dec.{T}
-use Rattle.primitive.specs.Paper.{Paper}
-use Rattle.primitive.proofs.Tests.{held, failed}
+use Rattle.bytes.specs.Paper.{Paper}
+use Rattle.bytes.proofs.Tests.{held, failed}
 use Rattle.runtime.specs.Addresses.{found, missing, seek}
 use Rattle.runtime.proofs.Views.{seek-turn, seek-over, seek-starts}
 

@@ -1,12 +1,12 @@
 -- A walker that holds its file walks as one does on plain parameters, and the other way round.
 use Prim.Native.Nat.{ℕ}
 use mathlib.Core.List.{List, [], _∷_}
-use mathlib.Core.Path.{_≡_, refl, subst, subst⁻¹}
+use mathlib.Core.Path.{refl, subst}
 use denote.Ref.{RefT, now}
 use Rattle.blend.specs.declared.Row.{Row}
-use Rattle.blend.specs.declared.walker.Place.{Place}
-use Rattle.blend.specs.Header.{headerBytes}
-use Rattle.blend.specs.Walker.{Stepped, Stop, Walk}
+use Rattle.walker.specs.declared.Place.{Place}
+use Rattle.header.specs.Header.{headerBytes}
+use Rattle.walker.specs.Walker.{Stepped, Stop, Walk}
 use Rattle.held.specs.declared.Walker.{Walker}
 use Rattle.held.specs.Walks.{HeldWalk}
 

@@ -1,4 +1,4 @@
--- What each public call promises, by its name (crates/primitive/specs/Calls.antt says how to read it): what the calls on plain parameters do, of the file that a walker
+-- What each public call promises, by its name (crates/bytes/specs/Calls.antt says how to read it): what the calls on plain parameters do, of the file that a walker
 -- holds and of a list of rows.
 use Prim.Native.Nat.{ℕ}
 use mathlib.Core.Bool.{Bool}
@@ -6,29 +6,29 @@ use mathlib.Core.List.{List}
 use mathlib.Core.Path.{_≡_}
 use denote.Ref.{RefT, now}
 use Rattle.blend.specs.declared.Row.{Row}
-use Rattle.blend.specs.declared.walker.Place.{Place}
-use Rattle.blend.specs.declared.walker.Step.{Step}
+use Rattle.walker.specs.declared.Place.{Place}
+use Rattle.walker.specs.declared.Step.{Step}
 use Rattle.runtime.specs.declared.runtime.Pointer.{Pointer}
-use Rattle.blend.specs.Calls.{«walker::Place::step»}
-use Rattle.blend.specs.Walker.{start}
+use Rattle.walker.specs.Calls.{«Place::step»}
+use Rattle.walker.specs.Walker.{start}
 use Rattle.runtime.specs.Addresses.{paperPointer}
 use Rattle.held.specs.declared.Walker.{Walker}
 use Rattle.held.specs.Held.{rowIs, lookupRows}
 
 abbrev pub «step_at» : (file : List ℕ) (place : Place) → Step → Type 0
-«step_at» file place r = «walker::Place::step» place file r
+«step_at» file place r = «Place::step» place file r
 
 abbrev pub «over» : (file : RefT (List ℕ)) → Walker → Type 0
 «over» file r = (r .file ≡ file) × (r .place ≡ start)
 
 abbrev pub «next» : (w : Walker) → Step → Type 0
-«next» w r = «walker::Place::step» (w .place) (now (w .file)) r
+«next» w r = «Place::step» (w .place) (now (w .file)) r
 
 abbrev pub «moved» : (w : Walker) (place : Place) → Walker → Type 0
 «moved» w place r = (r .file ≡ w .file) × (r .place ≡ place)
 
 abbrev pub «step_from» : (file : List ℕ) (place : Place) → Step → Type 0
-«step_from» file place r = «walker::Place::step» place file r
+«step_from» file place r = «Place::step» place file r
 
 abbrev pub «row_is» : (row : Row) (address : ℕ) → Bool → Type 0
 «row_is» row address r = r ≡ rowIs address row

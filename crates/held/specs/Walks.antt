@@ -2,9 +2,9 @@
 -- that the step handed back.
 use mathlib.Core.List.{List, [], _∷_}
 use Rattle.blend.specs.declared.Row.{Row}
-use Rattle.blend.specs.declared.walker.Place.{Place}
-use Rattle.blend.specs.declared.walker.Step.{Step}
-use Rattle.blend.specs.Walker.{Stop, stopped}
+use Rattle.walker.specs.declared.Place.{Place}
+use Rattle.walker.specs.declared.Step.{Step}
+use Rattle.walker.specs.Walker.{Stop, stopped}
 use Rattle.held.specs.declared.Walker.{Walker}
 use Rattle.held.specs.Calls.{«next», «moved»}
 

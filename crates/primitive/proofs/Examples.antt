@@ -1,19 +1,13 @@
 -- The rules at small inputs, computed.
-use mathlib.Core.List.{[], _∷_, _++_}
+use mathlib.Core.List.{[], _∷_}
 use mathlib.Core.Path.{_≡_, refl}
 use mathlib.Core.Bool.{true, false}
 use lib.Ieee.{fin, inf, binary32, binary64, ofBits, nanBits}
 use lib.IntN.{pos, negsuc}
-use Rattle.primitive.specs.declared.Endianness.the-variants.{Little, Big}
-use Rattle.primitive.specs.declared.Fault.the-variants.{Cut, Mark}
-use Rattle.primitive.specs.Ascii.{ascii}
-use Rattle.primitive.specs.Looks.{looks}
-use Rattle.primitive.specs.Number.{number, tag}
-use Rattle.primitive.specs.Paper.Paper.{accepts, integer, real, refuses}
+use Rattle.bytes.specs.declared.Endianness.the-variants.{Little, Big}
+use Rattle.bytes.specs.Ascii.{ascii}
+use Rattle.bytes.specs.Paper.Paper.{accepts, integer, real, refuses}
 use Rattle.primitive.specs.Primitive.{valueOf, unsigned, signed, float, named}
-use Rattle.primitive.specs.Reader.{run}
-use Rattle.primitive.specs.Reader.Reader.{done, skip, string, begins}
-use Rattle.primitive.specs.Reader.Outcome.{read, fault}
 
 -- two bytes in either order, and a third that is ignored
 both-orders : (valueOf 2 unsigned Little (1 ∷ 2 ∷ 9 ∷ []) ≡ accepts 0 (513 ∷ [])) × (valueOf 2 unsigned Big (1 ∷ 2 ∷ 9 ∷ []) ≡ accepts 0 (258 ∷ []))
@@ -41,19 +35,3 @@ floats = (refl, refl, refl, refl, refl)
 
 name : named (ascii "ulong") ≡ record { bytes = 117 ∷ 108 ∷ 111 ∷ 110 ∷ 103 ∷ 0 ∷ 0 ∷ 0 ∷ []; len = 5 }
 name = refl
-
-marks : (run (tag (ascii "ENDB") (number Big 2 done)) (ascii "ENDB" ++ (1 ∷ 2 ∷ [])) 0 ≡ read 258 6)
-    × (run (tag (ascii "ENDB") (number Big 2 done)) (ascii "ENDX" ++ (1 ∷ 2 ∷ [])) 0 ≡ fault (Mark 0))
-    × (run (tag (ascii "ENDB") (number Big 2 done)) (ascii "ENDB" ++ (1 ∷ [])) 0 ≡ fault (Cut 4))
-unfolding run
-marks = (refl, refl, refl)
-
-strings : (run (string done) (ascii "abc" ++ (0 ∷ 7 ∷ [])) 1 ≡ read 2 4) × (run (string done) (ascii "abc") 1 ≡ fault (Cut 1))
-unfolding run
-strings = (refl, refl)
-
--- a mark that is there is passed, and one that is not, or not whole, is not; what is skipped is not looked at
-others : (run (begins (ascii "ENDB") (done true) (done false)) (ascii "xENDB") 1 ≡ read true 5) × (run (begins (ascii "ENDB") (done true) (done false)) (ascii "xEND") 1 ≡ read false 1)
-    × (run (skip 2 (number Little 1 done)) (9 ∷ 9 ∷ 7 ∷ []) 0 ≡ read 7 3) × (looks (skip 2 (number Little 1 done)) (9 ∷ 9 ∷ 7 ∷ []) 0 ≡ (2, 1) ∷ [])
-unfolding run
-others = (refl, refl, refl, refl)

@@ -4,40 +4,78 @@ use mathlib.Core.Bool.{Bool, true, false, not}
 use mathlib.Core.List.{List, [], _∷_}
 use mathlib.Core.Path.{_≡_, refl, _∙_, sym, ap}
 use native.Mathlib.Omega.{arith}
-use borrow.Author.Tests.{lt-ltb, le-ltb, ltb-false}
+use borrow.Author.Tests.{leb-true, leb-false, lt-ltb, le-ltb, ltb-false}
 use lib.Dec.{T, ltb}
 use lib.Ieee.{Float, Format, ofBits, toBits, nanBits, isNan, ones, hid, top}
 use lib.Ieee.Bits.{nanBits-above, nanBits-is, toBits-ofBits}
 use lib.ListN.{length, take, drop, length-take, length-drop}
 use lib.Seq.{take-take}
-use Rattle.primitive.specs.declared.Endianness.{Endianness}
-use Rattle.primitive.specs.Helpers.{numberAt}
-use Rattle.primitive.specs.Number.{Bytes, spelled}
-use Rattle.primitive.specs.Paper.{Paper}
-use Rattle.primitive.specs.Paper.Paper.{accepts, real, refuses}
+use Rattle.bytes.specs.declared.Endianness.{Endianness}
+use Rattle.bytes.specs.declared.Fault.{Fault}
+use Rattle.bytes.specs.declared.Fault.the-variants.{Cut}
+use Rattle.bytes.specs.Helpers.{numberAt}
+use Rattle.bytes.specs.Number.{Bytes, spelled, number}
+use Rattle.bytes.specs.Paper.{Paper}
+use Rattle.bytes.specs.Paper.Paper.{accepts, real, refuses}
+use Rattle.bytes.specs.Reader.{Outcome, run, room}
+use Rattle.bytes.specs.Reader.Reader.{done}
+use Rattle.bytes.specs.Reader.Outcome.{read, fault}
 use Rattle.primitive.specs.Primitive.{valueOf, unsigned, float}
-use Rattle.primitive.proofs.Tests.{held, failed}
-use Rattle.primitive.proofs.Digits.{spelled-lt}
+use Rattle.bytes.proofs.Tests.{held, failed}
+use Rattle.bytes.proofs.Digits.{spelled-lt}
+
+-- a number from the start of a slice: the slice has it, or is too short
+module _ (width : ℕ) (e : Endianness) (s : List ℕ) where
+  start-read : (n next : ℕ) → read n next ≡ run (number e width done) s 0 → (width ≤ length s) × (n ≡ spelled e (take width s))
+  unfolding run
+  start-read n next h = go (room s 0 width) refl h
+    where
+      go : (t : Bool) → room s 0 width ≡ t → read n next ≡ (elim t as (λ (c : Bool). Outcome ℕ) [ true ↦ read (spelled e (take width s)) (0 + width) | false ↦ fault (Cut 0) ])
+          → (width ≤ length s) × (n ≡ spelled e (take width s))
+      go true t g = (omega (arith, leb-true (0 + width) (length s) t), cc)
+      go false t g =
+          let z : _≡_ {A = ℕ} 0 1 = cc in
+          absurd (omega arith)
+
+  start-stops : (x : Fault) → fault x ≡ run (number e width done) s 0 → length s < width
+  unfolding run
+  start-stops x h = go (room s 0 width) refl h
+    where
+      go : (t : Bool) → room s 0 width ≡ t → _≡_ {A = Outcome ℕ} (fault x) (elim t as (λ (c : Bool). Outcome ℕ) [ true ↦ read (spelled e (take width s)) (0 + width) | false ↦ fault (Cut 0) ]) → length s < width
+      go true t g =
+          let z : _≡_ {A = ℕ} 0 1 = cc in
+          absurd (omega arith)
+      go false t g = omega (arith, leb-false (0 + width) (length s) t)
+
+  pub value-fits : Bytes s → (n next : ℕ) → read n next ≡ run (number e width done) s 0 → n < 256 ^ width
+  value-fits b n next h =
+      let w = start-read n next h in
+      rw (w .1) (spelled-lt e s width b (w .0))
 
 module _ (width : ℕ) (kind : ℕ → Paper) (e : Endianness) (s : List ℕ) where
   -- a slice that is too short, and one that is not
-  pub too-short : length s < width → refuses 12 [] ≡ valueOf width kind e s
+  pub too-short : (x : Fault) → fault x ≡ run (number e width done) s 0 → refuses 12 [] ≡ valueOf width kind e s
   unfolding valueOf
-  too-short h = sym (held _ _ (lt-ltb _ _ h))
+  too-short x h = sym (held _ _ (lt-ltb _ _ (start-stops width e s x h)))
 
-  pub long-enough : width ≤ length s → (n : ℕ) → n ≡ spelled e (take width s) → kind n ≡ valueOf width kind e s
+  long-enough : width ≤ length s → (n : ℕ) → n ≡ spelled e (take width s) → kind n ≡ valueOf width kind e s
   unfolding valueOf
   long-enough h n t = ap kind t ∙ sym (failed _ _ (le-ltb _ _ h))
 
+  pub value-read : (n next : ℕ) → read n next ≡ run (number e width done) s 0 → kind n ≡ valueOf width kind e s
+  value-read n next h =
+      let w = start-read width e s n next h in
+      long-enough (w .0) n (w .1)
+
   -- where the unsigned number is refused so is any other kind, and where it is read the kind is told of that number
-  pub refused-too : refuses 12 [] ≡ valueOf width unsigned e s → refuses 12 [] ≡ valueOf width kind e s
+  pub refused-too : (m : ℕ) → refuses m [] ≡ valueOf width unsigned e s → refuses 12 [] ≡ valueOf width kind e s
   unfolding valueOf
-  refused-too h = go (ltb (length s) width) refl
+  refused-too m h = go (ltb (length s) width) refl
     where
       go : (b : Bool) → ltb (length s) width ≡ b → refuses 12 [] ≡ valueOf width kind e s
       go true t = sym (held _ _ t)
       go false t =
-          let g : refuses 12 [] ≡ unsigned (spelled e (take width s)) = h ∙ failed _ _ t in
+          let g : refuses m [] ≡ unsigned (spelled e (take width s)) = h ∙ failed _ _ t in
           let z : _≡_ {A = ℕ} 0 1 = cc in
           absurd (omega arith)
 
@@ -66,9 +104,9 @@ module _ (w : ℕ) (e : Endianness) (s : List ℕ) (at : ℕ) (h : at + w ≤ le
       let k : unsigned n ≡ unsigned (numberAt e w s at) = g ∙ value-there in
       cc
 
-  pub value-lacks : {A : Type 0} → refuses 12 [] ≡ valueOf w unsigned e (take (at + w - at) (drop at s)) → A
-  value-lacks g =
-      let k : refuses 12 [] ≡ unsigned (numberAt e w s at) = g ∙ value-there in
+  pub value-lacks : {A : Type 0} (m : ℕ) → refuses m [] ≡ valueOf w unsigned e (take (at + w - at) (drop at s)) → A
+  value-lacks m g =
+      let k : refuses m [] ≡ unsigned (numberAt e w s at) = g ∙ value-there in
       let z : _≡_ {A = ℕ} 0 1 = cc in
       absurd (omega arith)
 

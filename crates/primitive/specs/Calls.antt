@@ -1,18 +1,9 @@
--- What each public call promises, by its name: src/ ensures it, and crates/promises ties it to the code. A slice stands for the bytes that it holds, `self` and the
--- other parameters for themselves, and r for the answer.
+-- What each public call promises, by its name (crates/bytes/specs/Calls.antt says how to read it).
 use Prim.Native.Nat.{ℕ}
-use mathlib.Core.Bool.{Bool, true, false}
 use mathlib.Core.List.{List}
 use mathlib.Core.Path.{_≡_}
 use lib.Ieee.{binary32, binary64}
-use Rattle.primitive.specs.declared.Endianness.{Endianness}
-use Rattle.primitive.specs.declared.PointerSize.{PointerSize}
-use Rattle.primitive.specs.declared.cursor.Width.{Width}
-use Rattle.primitive.specs.declared.cursor.Cursor.{Cursor}
-use Rattle.primitive.specs.declared.cursor.Numbered.{Numbered}
-use Rattle.primitive.specs.declared.cursor.Moved.{Moved}
-use Rattle.primitive.specs.declared.cursor.Counted.{Counted}
-use Rattle.primitive.specs.declared.cursor.Begun.{Begun}
+use Rattle.bytes.specs.declared.Endianness.{Endianness}
 use Rattle.primitive.specs.declared.primitive.ValueU8.{ValueU8}
 use Rattle.primitive.specs.declared.primitive.ValueU16.{ValueU16}
 use Rattle.primitive.specs.declared.primitive.ValueU32.{ValueU32}
@@ -24,49 +15,8 @@ use Rattle.primitive.specs.declared.primitive.ValueI64.{ValueI64}
 use Rattle.primitive.specs.declared.primitive.ValueF32.{ValueF32}
 use Rattle.primitive.specs.declared.primitive.ValueF64.{ValueF64}
 use Rattle.primitive.specs.declared.primitive.Name.{Name}
-use Rattle.primitive.specs.Ascii.{ascii}
-use Rattle.primitive.specs.Cursor.{widthOf, numbered, moved, counted, begun, partOf}
-use Rattle.primitive.specs.Number.{number, tag}
-use Rattle.primitive.specs.PointerSize.{pointerBytes}
+use Rattle.bytes.specs.Ascii.{ascii}
 use Rattle.primitive.specs.Primitive.{valueOf, unsigned, signed, float, paperU8, paperU16, paperU32, paperU64, paperI8, paperI16, paperI32, paperI64, paperF32, paperF64, named}
-use Rattle.primitive.specs.Reader.{run, before, stands}
-use Rattle.primitive.specs.Reader.Reader.{done, bytes, skip, string, begins}
-
-abbrev pub «PointerSize::bytes_num» : (self : PointerSize) → ℕ → Type 0
-«PointerSize::bytes_num» self r = r ≡ pointerBytes self
-
-abbrev pub «cursor::Width::bytes_num» : (self : Width) → ℕ → Type 0
-«cursor::Width::bytes_num» self r = r ≡ widthOf self
-
-abbrev pub «cursor::stands_at» : (s : List ℕ) (at : ℕ) (m : List ℕ) → Bool → Type 0
-«cursor::stands_at» s at m r = r ≡ stands s at m
-
-abbrev pub «cursor::before» : (s : List ℕ) (c : ℕ) → ℕ → Type 0
-«cursor::before» s c r = r ≡ before c s
-
-abbrev pub «cursor::Cursor::new» : (at : ℕ) → Cursor → Type 0
-«cursor::Cursor::new» at r = r .at ≡ at
-
-abbrev pub «cursor::Cursor::number» : (self : Cursor) (s : List ℕ) (width : Width) (order : Endianness) → Numbered → Type 0
-«cursor::Cursor::number» self s width order r = numbered r ≡ run (number order (widthOf width) done) s (self .at)
-
-abbrev pub «cursor::Cursor::skip» : (self : Cursor) (s : List ℕ) (n : ℕ) → Moved → Type 0
-«cursor::Cursor::skip» self s n r = moved r ≡ run (skip n (done tt)) s (self .at)
-
-abbrev pub «cursor::Cursor::bytes» : (self : Cursor) (s : List ℕ) (n : ℕ) → Moved → Type 0
-«cursor::Cursor::bytes» self s n r = moved r ≡ run (bytes n (λ b. done tt)) s (self .at)
-
-abbrev pub «cursor::Cursor::part» : (self : Cursor) (s : List ℕ) (n : ℕ) → List ℕ → Type 0
-«cursor::Cursor::part» self s n r = r ≡ partOf s (self .at) n
-
-abbrev pub «cursor::Cursor::mark» : (self : Cursor) (s m : List ℕ) → Moved → Type 0
-«cursor::Cursor::mark» self s m r = moved r ≡ run (tag m (done tt)) s (self .at)
-
-abbrev pub «cursor::Cursor::begins» : (self : Cursor) (s m : List ℕ) → Begun → Type 0
-«cursor::Cursor::begins» self s m r = begun r ≡ run (begins m (done true) (done false)) s (self .at)
-
-abbrev pub «cursor::Cursor::string» : (self : Cursor) (s : List ℕ) → Counted → Type 0
-«cursor::Cursor::string» self s r = counted r ≡ run (string done) s (self .at)
 
 abbrev pub «primitive::parse_u8» : (slice : List ℕ) (endianness : Endianness) → ValueU8 → Type 0
 «primitive::parse_u8» slice endianness r = paperU8 r ≡ valueOf 1 unsigned endianness slice

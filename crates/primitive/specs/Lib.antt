@@ -1,13 +1,3 @@
--- The rules of the lowest layer: what reading is, what numbers and primitive values are, and how an answer is told.
-pub mod Ascii
-pub mod Reader
-pub mod Number
-pub mod Looks
-pub mod Paper
-pub mod Refusals
-pub mod Tables
-pub mod PointerSize
+-- The rules of primitive values.
 pub mod Primitive
-pub mod Cursor
-pub mod Helpers
 pub mod Calls

@@ -18,41 +18,49 @@ use denote.Triple.Entry.{Args, Res}
 use denote.Triple.Clauses.{Ended, Clauses, AtExit, atExit, closing}
 use denote.Triple.Spec.{Meets}
 use denote.Triple.Weaken.{weaken}
-use Rattle.primitive.specs.Paper.{Paper}
-use Rattle.primitive.specs.Paper.Paper.{accepts, integer, real, refuses}
-use Rattle.primitive.specs.Calls.{«PointerSize::bytes_num»}
-use Rattle.primitive.specs.Reader.{run}
-use Rattle.primitive.specs.Tables.{written}
+use Rattle.bytes.specs.Paper.{Paper}
+use Rattle.bytes.specs.Paper.Paper.{accepts, integer, real, refuses}
+use Rattle.bytes.specs.Calls.{«PointerSize::bytes_num»}
+use Rattle.bytes.specs.Reader.{run}
+use Rattle.bytes.specs.Tables.{written}
 use Rattle.field.specs.Declarators.{declared, parsedAs}
 use Rattle.dna.specs.Catalogue.{catalogue, rooms, readAs as catalogueAs}
 use Rattle.blend.specs.declared.blend.BlendAnswer.{BlendAnswer}
-use Rattle.blend.specs.declared.walker.Place.{Place}
-use Rattle.blend.specs.Calls.{«FileFormat::header_len», «FileFormat::block_header_len», «blend::blend»}
-use Rattle.blend.specs.Chain.{fileBy, perRow, readAs, paperBlend}
-use Rattle.blend.specs.Header.{headerBytes}
+use Rattle.walker.specs.declared.Place.{Place}
+use Rattle.header.specs.Calls.{«FileFormat::header_len», «FileFormat::block_header_len»}
+use Rattle.blend.specs.Calls.{«blend::blend»}
+use Rattle.blend.specs.Chain.{fileBy, readAs, paperBlend}
+use Rattle.blend.specs.Rows.{perRow}
+use Rattle.header.specs.Header.{headerBytes}
 use Rattle.exports.specs.declared.BlendField.{BlendField}
 use Rattle.exports.specs.declared.BlendCatalogue.{BlendCatalogue}
 use Rattle.exports.specs.declared.BlendRead.{BlendRead}
 use Rattle.exports.specs.Calls.{«blend_read», «blend_catalogue», «blend_field»}
 use Rattle.exports.specs.Exports.{refusal, orderOf, fieldOut}
 use Rattle.demands.specs.declared.Two.{Two}
+use Rattle.bytes.proofs as bytes
 use Rattle.primitive.proofs as primitive
 use Rattle.field.proofs as field
 use Rattle.dna.proofs as dna
+use Rattle.header.proofs as header
 use Rattle.blend.proofs as blend
+use Rattle.walker.proofs as walker
 use Rattle.runtime.proofs as runtime
 use Rattle.held.proofs as held
 use Rattle.exports.proofs as exports
 use Rattle.demands.proofs as demands
-use Rattle.primitive.proofs.Lossless.{wholeU8, wholeU16, wholeU32, wholeU64, wholeI8, wholeI16, wholeI32, wholeI64, wholeF32, wholeF64, at-one, wholeNumbered, wholeMoved, wholeCounted, wholeBegun}
-use Rattle.field.proofs.Lossless.{wholeField, wholeFunction, wholeWidth}
-use Rattle.dna.proofs.Lossless.{oneFilling, wholeCounted as wholeCountedDna}
-use Rattle.blend.proofs.Lossless.{wholeKind, wholePointerSize, wholeEndianness, wholeVersion, wholeHeader, wholeBlend, wholeStep}
-use Rattle.runtime.proofs.Lossless.{wholeView, wholePointer, wholeCode}
+use Rattle.bytes.proofs.Lossless.{at-one, one-refusal, whole-numbered, whole-moved, whole-counted, whole-begun}
+use Rattle.primitive.proofs.Lossless.{whole-u8, whole-u16, whole-u32, whole-u64, whole-i8, whole-i16, whole-i32, whole-i64, whole-f32, whole-f64}
+use Rattle.field.proofs.Lossless.{whole-field, whole-function, whole-width}
+use Rattle.dna.proofs.Lossless.{one-filling, whole-counted as wholeCountedDna}
+use Rattle.blend.proofs.Lossless.{whole-kind, whole-blend}
+use Rattle.header.proofs.Lossless.{whole-pointer-size, whole-endianness, whole-version, whole-header}
+use Rattle.walker.proofs.Lossless.{whole-step}
+use Rattle.runtime.proofs.Lossless.{whole-view, whole-pointer, whole-code}
 use Rattle.held.specs.declared.Walker.{Walker}
 use Rattle.promises.specs.Keeps.{Says, Keeps, Holds}
 use Rattle.promises.specs.Calls.{PublicCall, Refused, Nonzero, publicCall}
-use Rattle.promises.specs.Calls.PublicCall.{«primitive::PointerSize::bytes_num», «primitive::cursor::Width::bytes_num», «primitive::cursor::stands_at», «primitive::cursor::before», «primitive::cursor::Cursor::new», «primitive::cursor::Cursor::number», «primitive::cursor::Cursor::skip», «primitive::cursor::Cursor::bytes», «primitive::cursor::Cursor::part», «primitive::cursor::Cursor::mark», «primitive::cursor::Cursor::begins», «primitive::cursor::Cursor::string», «primitive::primitive::parse_u8», «primitive::primitive::parse_u16», «primitive::primitive::parse_u32», «primitive::primitive::parse_u64», «primitive::primitive::parse_char», «primitive::primitive::parse_i8», «primitive::primitive::parse_i16», «primitive::primitive::parse_i32», «primitive::primitive::parse_i64», «primitive::primitive::parse_f32», «primitive::primitive::parse_f64», «primitive::primitive::blender_name_char», «primitive::primitive::blender_name_i8», «primitive::primitive::blender_name_u8», «primitive::primitive::blender_name_u16», «primitive::primitive::blender_name_i16», «primitive::primitive::blender_name_i32», «primitive::primitive::blender_name_u32», «primitive::primitive::blender_name_f32», «primitive::primitive::blender_name_f64», «primitive::primitive::blender_name_u64», «primitive::primitive::blender_name_i64», «field::field::fn_pointer», «field::field::scan_field», «field::field::parse_field», «field::field::width», «dna::dna::dna_counts», «dna::dna::dna», «blend::FileFormat::header_len», «blend::FileFormat::block_header_len», «blend::Header::new», «blend::BlockHeader::new», «blend::Kind::of_code», «blend::blend::pointer_size», «blend::blend::endianness», «blend::blend::version», «blend::blend::header», «blend::blend::refusal_of», «blend::blend::block_header_code», «blend::blend::blend», «blend::walker::Place::start», «blend::walker::Place::step», «runtime::runtime::view», «runtime::runtime::view_part», «runtime::runtime::matches», «runtime::runtime::get_ptr», «runtime::runtime::code», «held::step_at», «held::over», «held::next», «held::moved», «held::step_from», «held::row_is», «held::find_row», «held::find_in», «exports::blend_header», «exports::blend_read», «exports::blend_catalogue», «exports::blend_field», «exports::blend_width», «exports::blend_view», «exports::blend_lookup», «exports::blend_u8», «exports::blend_u16», «exports::blend_u32», «exports::blend_u64», «demands::read», «demands::read_two»}
+use Rattle.promises.specs.Calls.PublicCall.{«bytes::PointerSize::bytes_num», «bytes::Fault::refusal», «bytes::cursor::Width::bytes_num», «bytes::cursor::stands_at», «bytes::cursor::before», «bytes::cursor::Cursor::new», «bytes::cursor::Cursor::number», «bytes::cursor::Cursor::skip», «bytes::cursor::Cursor::bytes», «bytes::cursor::Cursor::part», «bytes::cursor::Cursor::mark», «bytes::cursor::Cursor::begins», «bytes::cursor::Cursor::string», «primitive::primitive::parse_u8», «primitive::primitive::parse_u16», «primitive::primitive::parse_u32», «primitive::primitive::parse_u64», «primitive::primitive::parse_char», «primitive::primitive::parse_i8», «primitive::primitive::parse_i16», «primitive::primitive::parse_i32», «primitive::primitive::parse_i64», «primitive::primitive::parse_f32», «primitive::primitive::parse_f64», «primitive::primitive::blender_name_char», «primitive::primitive::blender_name_i8», «primitive::primitive::blender_name_u8», «primitive::primitive::blender_name_u16», «primitive::primitive::blender_name_i16», «primitive::primitive::blender_name_i32», «primitive::primitive::blender_name_u32», «primitive::primitive::blender_name_f32», «primitive::primitive::blender_name_f64», «primitive::primitive::blender_name_u64», «primitive::primitive::blender_name_i64», «field::field::fn_pointer», «field::field::scan_field», «field::field::parse_field», «field::field::width», «dna::dna::dna_counts», «dna::dna::dna», «header::FileFormat::header_len», «header::FileFormat::block_header_len», «header::Header::new», «blend::BlockHeader::new», «blend::Kind::of_code», «blend::About::new», «blend::Kind::about», «header::blend::pointer_size», «header::blend::endianness», «header::blend::version», «header::blend::header», «header::blend::refusal_of», «blend::blend::block_header_code», «blend::blend::boundary_at», «blend::blend::blend», «walker::Place::start», «walker::Place::step», «runtime::runtime::view», «runtime::runtime::view_part», «runtime::runtime::matches», «runtime::runtime::get_ptr», «runtime::runtime::code», «held::step_at», «held::over», «held::next», «held::moved», «held::step_from», «held::row_is», «held::find_row», «held::find_in», «exports::blend_header», «exports::blend_read», «exports::blend_catalogue», «exports::blend_field», «exports::blend_width», «exports::blend_view», «exports::blend_lookup», «exports::blend_u8», «exports::blend_u16», «exports::blend_u32», «exports::blend_u64», «demands::read», «demands::read_two»}
 
 -- of a function whose contract has a second clause besides, the first is kept
 module _ (T : Ended) (code : Routine) (says : Says T)
@@ -129,29 +137,30 @@ catalogue-unwritten s order n t u f r n′ t′ u′ f′ x z =
     (unrefused p _ n n′ (r .refusal) e z (x .in-names), unrefused p _ t t′ (r .refusal) e z (x .in-types), unrefused p _ u u′ (r .refusal) e z (x .in-structs), unrefused p _ f f′ (r .refusal) e z (x .in-fields))
 
 pub every : (c : PublicCall) → Holds (publicCall c)
-every «primitive::PointerSize::bytes_num» = record { keeps = first-kept primitive.PointerSize.bytes_num.ended primitive.PointerSize.bytes_num.Symbol.routine (λ κs a r e. «PointerSize::bytes_num» (a .0) r) (λ M 𝓤 H 𝓜 𝓖 𝓡 κs a r e. primitive.PointerSize.bytes_num.ensures-constants 𝓤 H κs (𝓖 .A) (𝓜 .mem) (𝓡 .run) (a .0) (record { entry = a .0; exit = e .0 }) r) (λ M. primitive.PointerSize.bytes_num.Met.met); one = λ κs a r q ws vs x y. (x ∙ sym y, refl) }
-every «primitive::cursor::Width::bytes_num» = record { keeps = λ M. primitive.cursor.Width.bytes_num.Met.met; one = λ κs a r q ws vs x y. (x ∙ sym y, refl) }
-every «primitive::cursor::stands_at» = record { keeps = λ M. primitive.cursor.stands_at.Met.met; one = λ κs a r q ws vs x y. (x ∙ sym y, refl) }
-every «primitive::cursor::before» = record { keeps = λ M. primitive.cursor.before.Met.met; one = λ κs a r q ws vs x y. (x ∙ sym y, refl) }
-every «primitive::cursor::Cursor::new» = record { keeps = λ M. primitive.cursor.Cursor.new.Met.met; one = λ κs a r q ws vs x y. (at-one r q (x ∙ sym y), refl) }
-every «primitive::cursor::Cursor::number» = record { keeps = λ M. primitive.cursor.Cursor.number.Met.met; one = λ κs a r q ws vs x y. (wholeNumbered r q (x ∙ sym y), refl) }
-every «primitive::cursor::Cursor::skip» = record { keeps = λ M. primitive.cursor.Cursor.skip.Met.met; one = λ κs a r q ws vs x y. (wholeMoved r q (x ∙ sym y), refl) }
-every «primitive::cursor::Cursor::bytes» = record { keeps = λ M. primitive.cursor.Cursor.bytes.Met.met; one = λ κs a r q ws vs x y. (wholeMoved r q (x ∙ sym y), refl) }
-every «primitive::cursor::Cursor::part» = record { keeps = λ M. primitive.cursor.Cursor.part.Met.met; one = λ κs a r q ws vs x y. (x ∙ sym y, refl) }
-every «primitive::cursor::Cursor::mark» = record { keeps = λ M. primitive.cursor.Cursor.mark.Met.met; one = λ κs a r q ws vs x y. (wholeMoved r q (x ∙ sym y), refl) }
-every «primitive::cursor::Cursor::begins» = record { keeps = λ M. primitive.cursor.Cursor.begins.Met.met; one = λ κs a r q ws vs x y. (wholeBegun r q (x ∙ sym y), refl) }
-every «primitive::cursor::Cursor::string» = record { keeps = λ M. primitive.cursor.Cursor.string.Met.met; one = λ κs a r q ws vs x y. (wholeCounted r q (x ∙ sym y), refl) }
-every «primitive::primitive::parse_u8» = record { keeps = λ M. primitive.primitive.parse_u8.Met.met; one = λ κs a r q ws vs x y. (wholeU8 r q (x ∙ sym y), refl) }
-every «primitive::primitive::parse_u16» = record { keeps = λ M. primitive.primitive.parse_u16.Met.met; one = λ κs a r q ws vs x y. (wholeU16 r q (x ∙ sym y), refl) }
-every «primitive::primitive::parse_u32» = record { keeps = λ M. primitive.primitive.parse_u32.Met.met; one = λ κs a r q ws vs x y. (wholeU32 r q (x ∙ sym y), refl) }
-every «primitive::primitive::parse_u64» = record { keeps = λ M. primitive.primitive.parse_u64.Met.met; one = λ κs a r q ws vs x y. (wholeU64 r q (x ∙ sym y), refl) }
-every «primitive::primitive::parse_char» = record { keeps = λ M. primitive.primitive.parse_char.Met.met; one = λ κs a r q ws vs x y. (wholeU8 r q (x ∙ sym y), refl) }
-every «primitive::primitive::parse_i8» = record { keeps = λ M. primitive.primitive.parse_i8.Met.met; one = λ κs a r q ws vs x y. (wholeI8 r q (x ∙ sym y), refl) }
-every «primitive::primitive::parse_i16» = record { keeps = λ M. primitive.primitive.parse_i16.Met.met; one = λ κs a r q ws vs x y. (wholeI16 r q (x ∙ sym y), refl) }
-every «primitive::primitive::parse_i32» = record { keeps = λ M. primitive.primitive.parse_i32.Met.met; one = λ κs a r q ws vs x y. (wholeI32 r q (x ∙ sym y), refl) }
-every «primitive::primitive::parse_i64» = record { keeps = λ M. primitive.primitive.parse_i64.Met.met; one = λ κs a r q ws vs x y. (wholeI64 r q (x ∙ sym y), refl) }
-every «primitive::primitive::parse_f32» = record { keeps = λ M. primitive.primitive.parse_f32.Met.met; one = λ κs a r q ws vs x y. (wholeF32 r q (x ∙ sym y), refl) }
-every «primitive::primitive::parse_f64» = record { keeps = λ M. primitive.primitive.parse_f64.Met.met; one = λ κs a r q ws vs x y. (wholeF64 r q (x ∙ sym y), refl) }
+every «bytes::PointerSize::bytes_num» = record { keeps = first-kept bytes.PointerSize.bytes_num.ended bytes.PointerSize.bytes_num.Symbol.routine (λ κs a r e. «PointerSize::bytes_num» (a .0) r) (λ M 𝓤 H 𝓜 𝓖 𝓡 κs a r e. bytes.PointerSize.bytes_num.ensures-constants 𝓤 H κs (𝓖 .A) (𝓜 .mem) (𝓡 .run) (a .0) (record { entry = a .0; exit = e .0 }) r) (λ M. bytes.PointerSize.bytes_num.Met.met); one = λ κs a r q ws vs x y. (x ∙ sym y, refl) }
+every «bytes::Fault::refusal» = record { keeps = λ M. bytes.Fault.refusal.Met.met; one = λ κs a r q ws vs x y. (one-refusal r q (x ∙ sym y), refl) }
+every «bytes::cursor::Width::bytes_num» = record { keeps = λ M. bytes.cursor.Width.bytes_num.Met.met; one = λ κs a r q ws vs x y. (x ∙ sym y, refl) }
+every «bytes::cursor::stands_at» = record { keeps = λ M. bytes.cursor.stands_at.Met.met; one = λ κs a r q ws vs x y. (x ∙ sym y, refl) }
+every «bytes::cursor::before» = record { keeps = λ M. bytes.cursor.before.Met.met; one = λ κs a r q ws vs x y. (x ∙ sym y, refl) }
+every «bytes::cursor::Cursor::new» = record { keeps = λ M. bytes.cursor.Cursor.new.Met.met; one = λ κs a r q ws vs x y. (at-one r q (x ∙ sym y), refl) }
+every «bytes::cursor::Cursor::number» = record { keeps = λ M. bytes.cursor.Cursor.number.Met.met; one = λ κs a r q ws vs x y. (whole-numbered r q (x ∙ sym y), refl) }
+every «bytes::cursor::Cursor::skip» = record { keeps = λ M. bytes.cursor.Cursor.skip.Met.met; one = λ κs a r q ws vs x y. (whole-moved r q (x ∙ sym y), refl) }
+every «bytes::cursor::Cursor::bytes» = record { keeps = λ M. bytes.cursor.Cursor.bytes.Met.met; one = λ κs a r q ws vs x y. (whole-moved r q (x ∙ sym y), refl) }
+every «bytes::cursor::Cursor::part» = record { keeps = λ M. bytes.cursor.Cursor.part.Met.met; one = λ κs a r q ws vs x y. (x ∙ sym y, refl) }
+every «bytes::cursor::Cursor::mark» = record { keeps = λ M. bytes.cursor.Cursor.mark.Met.met; one = λ κs a r q ws vs x y. (whole-moved r q (x ∙ sym y), refl) }
+every «bytes::cursor::Cursor::begins» = record { keeps = λ M. bytes.cursor.Cursor.begins.Met.met; one = λ κs a r q ws vs x y. (whole-begun r q (x ∙ sym y), refl) }
+every «bytes::cursor::Cursor::string» = record { keeps = λ M. bytes.cursor.Cursor.string.Met.met; one = λ κs a r q ws vs x y. (whole-counted r q (x ∙ sym y), refl) }
+every «primitive::primitive::parse_u8» = record { keeps = λ M. primitive.primitive.parse_u8.Met.met; one = λ κs a r q ws vs x y. (whole-u8 r q (x ∙ sym y), refl) }
+every «primitive::primitive::parse_u16» = record { keeps = λ M. primitive.primitive.parse_u16.Met.met; one = λ κs a r q ws vs x y. (whole-u16 r q (x ∙ sym y), refl) }
+every «primitive::primitive::parse_u32» = record { keeps = λ M. primitive.primitive.parse_u32.Met.met; one = λ κs a r q ws vs x y. (whole-u32 r q (x ∙ sym y), refl) }
+every «primitive::primitive::parse_u64» = record { keeps = λ M. primitive.primitive.parse_u64.Met.met; one = λ κs a r q ws vs x y. (whole-u64 r q (x ∙ sym y), refl) }
+every «primitive::primitive::parse_char» = record { keeps = λ M. primitive.primitive.parse_char.Met.met; one = λ κs a r q ws vs x y. (whole-u8 r q (x ∙ sym y), refl) }
+every «primitive::primitive::parse_i8» = record { keeps = λ M. primitive.primitive.parse_i8.Met.met; one = λ κs a r q ws vs x y. (whole-i8 r q (x ∙ sym y), refl) }
+every «primitive::primitive::parse_i16» = record { keeps = λ M. primitive.primitive.parse_i16.Met.met; one = λ κs a r q ws vs x y. (whole-i16 r q (x ∙ sym y), refl) }
+every «primitive::primitive::parse_i32» = record { keeps = λ M. primitive.primitive.parse_i32.Met.met; one = λ κs a r q ws vs x y. (whole-i32 r q (x ∙ sym y), refl) }
+every «primitive::primitive::parse_i64» = record { keeps = λ M. primitive.primitive.parse_i64.Met.met; one = λ κs a r q ws vs x y. (whole-i64 r q (x ∙ sym y), refl) }
+every «primitive::primitive::parse_f32» = record { keeps = λ M. primitive.primitive.parse_f32.Met.met; one = λ κs a r q ws vs x y. (whole-f32 r q (x ∙ sym y), refl) }
+every «primitive::primitive::parse_f64» = record { keeps = λ M. primitive.primitive.parse_f64.Met.met; one = λ κs a r q ws vs x y. (whole-f64 r q (x ∙ sym y), refl) }
 every «primitive::primitive::blender_name_char» = record { keeps = λ M. primitive.primitive.blender_name_char.Met.met; one = λ κs a r q ws vs x y. (x ∙ sym y, refl) }
 every «primitive::primitive::blender_name_i8» = record { keeps = λ M. primitive.primitive.blender_name_i8.Met.met; one = λ κs a r q ws vs x y. (x ∙ sym y, refl) }
 every «primitive::primitive::blender_name_u8» = record { keeps = λ M. primitive.primitive.blender_name_u8.Met.met; one = λ κs a r q ws vs x y. (x ∙ sym y, refl) }
@@ -163,57 +172,60 @@ every «primitive::primitive::blender_name_f32» = record { keeps = λ M. primit
 every «primitive::primitive::blender_name_f64» = record { keeps = λ M. primitive.primitive.blender_name_f64.Met.met; one = λ κs a r q ws vs x y. (x ∙ sym y, refl) }
 every «primitive::primitive::blender_name_u64» = record { keeps = λ M. primitive.primitive.blender_name_u64.Met.met; one = λ κs a r q ws vs x y. (x ∙ sym y, refl) }
 every «primitive::primitive::blender_name_i64» = record { keeps = λ M. primitive.primitive.blender_name_i64.Met.met; one = λ κs a r q ws vs x y. (x ∙ sym y, refl) }
-every «field::field::fn_pointer» = record { keeps = λ M. field.field.fn_pointer.Met.met; one = λ κs a r q ws vs x y. (wholeFunction r q (x ∙ sym y), refl) }
-every «field::field::scan_field» = record { keeps = λ M. field.field.scan_field.Met.met; one = λ κs a r q ws vs x y. (wholeField r q (x ∙ sym y), refl) }
+every «field::field::fn_pointer» = record { keeps = λ M. field.field.fn_pointer.Met.met; one = λ κs a r q ws vs x y. (whole-function r q (x ∙ sym y), refl) }
+every «field::field::scan_field» = record { keeps = λ M. field.field.scan_field.Met.met; one = λ κs a r q ws vs x y. (whole-field r q (x ∙ sym y), refl) }
 every «field::field::parse_field» =
     record {
       keeps = λ M. field.field.parse_field.Met.met;
-      one = λ κs a r q ws vs x y. (wholeField r q (x .0 ∙ sym (y .0)), lent (ws .1 .0) (vs .1 .0) (x .1 ∙ sym (y .1)));
+      one = λ κs a r q ws vs x y. (whole-field r q (x .0 ∙ sym (y .0)), lent (ws .1 .0) (vs .1 .0) (x .1 ∙ sym (y .1)));
       nothing = λ κs a r ws x f. unwritten _ _ _ _ _ (x .0) (x .1) f;
     }
-every «field::field::width» = record { keeps = λ M. field.field.width.Met.met; one = λ κs a r q ws vs x y. (wholeWidth r q (x ∙ sym y), refl) }
+every «field::field::width» = record { keeps = λ M. field.field.width.Met.met; one = λ κs a r q ws vs x y. (whole-width r q (x ∙ sym y), refl) }
 every «dna::dna::dna_counts» = record { keeps = λ M. dna.dna.dna_counts.Met.met; one = λ κs a r q ws vs x y. (wholeCountedDna r q (x .1 ∙ sym (y .1)), refl) }
 every «dna::dna::dna» =
     record {
       keeps = λ M. dna.dna.dna.Met.met;
       one = λ κs a r q ws vs x y.
-          let o = oneFilling _ r q _ _ _ _ _ _ _ _ _ _ _ _ x y in
+          let o = one-filling _ r q _ _ _ _ _ _ _ _ _ _ _ _ x y in
           (o .0, filled _ _ _ _ _ _ _ _ (o .1) (o .2) (o .3) (o .4));
       nothing = λ κs a r ws x f.
           (unwritten _ _ _ _ _ (x .answer) (x .in-names) f, unwritten _ _ _ _ _ (x .answer) (x .in-types) f, unwritten _ _ _ _ _ (x .answer) (x .in-structs) f, unwritten _ _ _ _ _ (x .answer) (x .in-fields) f);
     }
-every «blend::FileFormat::header_len» = record { keeps = first-kept blend.FileFormat.header_len.ended blend.FileFormat.header_len.Symbol.routine (λ κs a r e. «FileFormat::header_len» (a .0) r) (λ M 𝓤 H 𝓜 𝓖 𝓡 κs a r e. blend.FileFormat.header_len.ensures-constants 𝓤 H κs (𝓖 .A) (𝓜 .mem) (𝓡 .run) (a .0) (record { entry = a .0; exit = e .0 }) r) (λ M. blend.FileFormat.header_len.Met.met); one = λ κs a r q ws vs x y. (x ∙ sym y, refl) }
-every «blend::FileFormat::block_header_len» = record { keeps = first-kept blend.FileFormat.block_header_len.ended blend.FileFormat.block_header_len.Symbol.routine (λ κs a r e. «FileFormat::block_header_len» (a .0) (a .1 .0) r) (λ M 𝓤 H 𝓜 𝓖 𝓡 κs a r e. blend.FileFormat.block_header_len.ensures-constants 𝓤 H κs (𝓖 .A) (𝓜 .mem) (𝓡 .run) (a .0) (a .1 .0) (record { entry = a .0; exit = e .0 }) (record { entry = a .1 .0; exit = e .1 .0 }) r) (λ M. blend.FileFormat.block_header_len.Met.met); one = λ κs a r q ws vs x y. (x ∙ sym y, refl) }
-every «blend::Header::new» = record { keeps = λ M. blend.Header.new.Met.met; one = λ κs a r q ws vs x y. (x ∙ sym y, refl) }
+every «header::FileFormat::header_len» = record { keeps = first-kept header.FileFormat.header_len.ended header.FileFormat.header_len.Symbol.routine (λ κs a r e. «FileFormat::header_len» (a .0) r) (λ M 𝓤 H 𝓜 𝓖 𝓡 κs a r e. header.FileFormat.header_len.ensures-constants 𝓤 H κs (𝓖 .A) (𝓜 .mem) (𝓡 .run) (a .0) (record { entry = a .0; exit = e .0 }) r) (λ M. header.FileFormat.header_len.Met.met); one = λ κs a r q ws vs x y. (x ∙ sym y, refl) }
+every «header::FileFormat::block_header_len» = record { keeps = first-kept header.FileFormat.block_header_len.ended header.FileFormat.block_header_len.Symbol.routine (λ κs a r e. «FileFormat::block_header_len» (a .0) (a .1 .0) r) (λ M 𝓤 H 𝓜 𝓖 𝓡 κs a r e. header.FileFormat.block_header_len.ensures-constants 𝓤 H κs (𝓖 .A) (𝓜 .mem) (𝓡 .run) (a .0) (a .1 .0) (record { entry = a .0; exit = e .0 }) (record { entry = a .1 .0; exit = e .1 .0 }) r) (λ M. header.FileFormat.block_header_len.Met.met); one = λ κs a r q ws vs x y. (x ∙ sym y, refl) }
+every «header::Header::new» = record { keeps = λ M. header.Header.new.Met.met; one = λ κs a r q ws vs x y. (x ∙ sym y, refl) }
 every «blend::BlockHeader::new» = record { keeps = λ M. blend.BlockHeader.new.Met.met; one = λ κs a r q ws vs x y. (x ∙ sym y, refl) }
-every «blend::Kind::of_code» = record { keeps = λ M. blend.Kind.of_code.Met.met; one = λ κs a r q ws vs x y. (wholeKind r q (x ∙ sym y), refl) }
-every «blend::blend::pointer_size» = record { keeps = λ M. blend.blend.pointer_size.Met.met; one = λ κs a r q ws vs x y. (wholePointerSize r q (x ∙ sym y), refl) }
-every «blend::blend::endianness» = record { keeps = λ M. blend.blend.endianness.Met.met; one = λ κs a r q ws vs x y. (wholeEndianness r q (x ∙ sym y), refl) }
-every «blend::blend::version» = record { keeps = λ M. blend.blend.version.Met.met; one = λ κs a r q ws vs x y. (wholeVersion r q (x ∙ sym y), refl) }
-every «blend::blend::header» = record { keeps = λ M. blend.blend.header.Met.met; one = λ κs a r q ws vs x y. (wholeHeader r q (x ∙ sym y), refl) }
-every «blend::blend::refusal_of» = record { keeps = λ M. blend.blend.refusal_of.Met.met; one = λ κs a r q ws vs x y. (x ∙ sym y, refl) }
-every «blend::blend::block_header_code» = record { keeps = λ M. blend.blend.block_header_code.Met.met; one = λ κs a r q ws vs x y. (wholeNumbered r q (x ∙ sym y), refl) }
+every «blend::Kind::of_code» = record { keeps = λ M. blend.Kind.of_code.Met.met; one = λ κs a r q ws vs x y. (whole-kind r q (x ∙ sym y), refl) }
+every «blend::About::new» = record { keeps = λ M. blend.About.new.Met.met; one = λ κs a r q ws vs x y. (x ∙ sym y, refl) }
+every «blend::Kind::about» = record { keeps = λ M. blend.Kind.about.Met.met; one = λ κs a r q ws vs x y. (x ∙ sym y, refl) }
+every «header::blend::pointer_size» = record { keeps = λ M. header.blend.pointer_size.Met.met; one = λ κs a r q ws vs x y. (whole-pointer-size r q (x ∙ sym y), refl) }
+every «header::blend::endianness» = record { keeps = λ M. header.blend.endianness.Met.met; one = λ κs a r q ws vs x y. (whole-endianness r q (x ∙ sym y), refl) }
+every «header::blend::version» = record { keeps = λ M. header.blend.version.Met.met; one = λ κs a r q ws vs x y. (whole-version r q (x ∙ sym y), refl) }
+every «header::blend::header» = record { keeps = λ M. header.blend.header.Met.met; one = λ κs a r q ws vs x y. (whole-header r q (x ∙ sym y), refl) }
+every «header::blend::refusal_of» = record { keeps = λ M. header.blend.refusal_of.Met.met; one = λ κs a r q ws vs x y. (x ∙ sym y, refl) }
+every «blend::blend::block_header_code» = record { keeps = λ M. blend.blend.block_header_code.Met.met; one = λ κs a r q ws vs x y. (whole-numbered r q (x ∙ sym y), refl) }
+every «blend::blend::boundary_at» = record { keeps = λ M. blend.blend.boundary_at.Met.met; one = λ κs a r q ws vs x y. (x ∙ sym y, refl) }
 every «blend::blend::blend» =
     record {
       keeps = λ M. blend.blend.blend.Met.met;
-      one = λ κs a r q ws vs x y. (wholeBlend r q (x .0 ∙ sym (y .0)), lent (ws .1 .0) (vs .1 .0) (x .1 ∙ sym (y .1)));
+      one = λ κs a r q ws vs x y. (whole-blend r q (x .0 ∙ sym (y .0)), lent (ws .1 .0) (vs .1 .0) (x .1 ∙ sym (y .1)));
       nothing = λ κs a r ws x f. blend-unwritten (now (a .0)) (now (a .1 .0)) r (ws .1 .0) x f;
     }
-every «blend::walker::Place::start» = record { keeps = λ M. blend.walker.Place.start.Met.met; one = λ κs a r q ws vs x y. (x ∙ sym y, refl) }
-every «blend::walker::Place::step» = record { keeps = λ M. blend.walker.Place.step.Met.met; one = λ κs a r q ws vs x y. (wholeStep r q (x .0 ∙ sym (y .0)) (x .1 ∙ sym (y .1)), refl) }
-every «runtime::runtime::view» = record { keeps = λ M. runtime.runtime.view.Met.met; one = λ κs a r q ws vs x y. (wholeView r q (x ∙ sym y), refl) }
+every «walker::Place::start» = record { keeps = λ M. walker.Place.start.Met.met; one = λ κs a r q ws vs x y. (x ∙ sym y, refl) }
+every «walker::Place::step» = record { keeps = λ M. walker.Place.step.Met.met; one = λ κs a r q ws vs x y. (whole-step r q (x .0 ∙ sym (y .0)) (x .1 ∙ sym (y .1)), refl) }
+every «runtime::runtime::view» = record { keeps = λ M. runtime.runtime.view.Met.met; one = λ κs a r q ws vs x y. (whole-view r q (x ∙ sym y), refl) }
 every «runtime::runtime::view_part» = record { keeps = λ M. runtime.runtime.view_part.Met.met; one = λ κs a r q ws vs x y. (x ∙ sym y, refl) }
 every «runtime::runtime::matches» = record { keeps = λ M. runtime.runtime.matches.Met.met; one = λ κs a r q ws vs x y. (x ∙ sym y, refl) }
-every «runtime::runtime::get_ptr» = record { keeps = λ M. runtime.runtime.get_ptr.Met.met; one = λ κs a r q ws vs x y. (wholePointer r q (x ∙ sym y), refl) }
-every «runtime::runtime::code» = record { keeps = λ M. runtime.runtime.code.Met.met; one = λ κs a r q ws vs x y. (wholeCode r q (x ∙ sym y), refl) }
-every «held::step_at» = record { keeps = λ M. held.step_at.Met.met; one = λ κs a r q ws vs x y. (wholeStep r q (x .0 ∙ sym (y .0)) (x .1 ∙ sym (y .1)), refl) }
+every «runtime::runtime::get_ptr» = record { keeps = λ M. runtime.runtime.get_ptr.Met.met; one = λ κs a r q ws vs x y. (whole-pointer r q (x ∙ sym y), refl) }
+every «runtime::runtime::code» = record { keeps = λ M. runtime.runtime.code.Met.met; one = λ κs a r q ws vs x y. (whole-code r q (x ∙ sym y), refl) }
+every «held::step_at» = record { keeps = λ M. held.step_at.Met.met; one = λ κs a r q ws vs x y. (whole-step r q (x .0 ∙ sym (y .0)) (x .1 ∙ sym (y .1)), refl) }
 every «held::over» = record { keeps = λ M. held.over.Met.met; one = λ κs a r q ws vs x y. (one-walker r q (x .0 ∙ sym (y .0)) (x .1 ∙ sym (y .1)), refl) }
-every «held::next» = record { keeps = λ M. held.next.Met.met; one = λ κs a r q ws vs x y. (wholeStep r q (x .0 ∙ sym (y .0)) (x .1 ∙ sym (y .1)), refl) }
+every «held::next» = record { keeps = λ M. held.next.Met.met; one = λ κs a r q ws vs x y. (whole-step r q (x .0 ∙ sym (y .0)) (x .1 ∙ sym (y .1)), refl) }
 every «held::moved» = record { keeps = λ M. held.moved.Met.met; one = λ κs a r q ws vs x y. (one-walker r q (x .0 ∙ sym (y .0)) (x .1 ∙ sym (y .1)), refl) }
-every «held::step_from» = record { keeps = λ M. held.step_from.Met.met; one = λ κs a r q ws vs x y. (wholeStep r q (x .0 ∙ sym (y .0)) (x .1 ∙ sym (y .1)), refl) }
+every «held::step_from» = record { keeps = λ M. held.step_from.Met.met; one = λ κs a r q ws vs x y. (whole-step r q (x .0 ∙ sym (y .0)) (x .1 ∙ sym (y .1)), refl) }
 every «held::row_is» = record { keeps = λ M. held.row_is.Met.met; one = λ κs a r q ws vs x y. (x ∙ sym y, refl) }
-every «held::find_row» = record { keeps = λ M. held.find_row.Met.met; one = λ κs a r q ws vs x y. (wholePointer r q (x ∙ sym y), refl) }
-every «held::find_in» = record { keeps = λ M. held.find_in.Met.met; one = λ κs a r q ws vs x y. (wholePointer r q (x ∙ sym y), refl) }
+every «held::find_row» = record { keeps = λ M. held.find_row.Met.met; one = λ κs a r q ws vs x y. (whole-pointer r q (x ∙ sym y), refl) }
+every «held::find_in» = record { keeps = λ M. held.find_in.Met.met; one = λ κs a r q ws vs x y. (whole-pointer r q (x ∙ sym y), refl) }
 every «exports::blend_header» = record { keeps = λ M. exports.blend_header.Met.met; one = λ κs a r q ws vs x y. (x ∙ sym y, refl) }
 every «exports::blend_read» =
     record {
@@ -245,13 +257,13 @@ every «exports::blend_u64» = record { keeps = λ M. exports.blend_u64.Met.met;
 every «demands::read» =
     record {
       keeps = λ M. demands.read.Met.met;
-      one = λ κs a r q ws vs x y. (wholeBlend r q (x .0 .0 ∙ sym (y .0 .0)), lent (ws .1 .0) (vs .1 .0) (x .0 .1 ∙ sym (y .0 .1)));
+      one = λ κs a r q ws vs x y. (whole-blend r q (x .0 .0 ∙ sym (y .0 .0)), lent (ws .1 .0) (vs .1 .0) (x .0 .1 ∙ sym (y .0 .1)));
       nothing = λ κs a r ws x f. blend-unwritten (now (a .0)) (now (a .1 .0)) r (ws .1 .0) (x .0) f;
     }
 every «demands::read_two» =
     record {
       keeps = λ M. demands.read_two.Met.met;
-      one = λ κs a r q ws vs x y. (one-two r q (wholeBlend _ _ (x .0 .0 ∙ sym (y .0 .0))) (wholeBlend _ _ (x .1 .0 ∙ sym (y .1 .0))), lent-two _ _ _ _ (x .0 .1 ∙ sym (y .0 .1)) (x .1 .1 ∙ sym (y .1 .1)));
+      one = λ κs a r q ws vs x y. (one-two r q (whole-blend _ _ (x .0 .0 ∙ sym (y .0 .0))) (whole-blend _ _ (x .1 .0 ∙ sym (y .1 .0))), lent-two _ _ _ _ (x .0 .1 ∙ sym (y .0 .1)) (x .1 .1 ∙ sym (y .1 .1)));
       nothing = λ κs a r ws x. (
         λ f. blend-unwritten (now (a .0)) (now (a .1 .0)) (r .one) (ws .1 .0) (x .0) f,
         λ f. blend-unwritten (now (a .1 .1 .0)) (now (a .1 .1 .1 .0)) (r .other) (ws .1 .1 .1 .0) (x .1) f,

@@ -4,12 +4,15 @@ use Prim.Native.Nat.{ℕ}
 use mathlib.Core.List.{List}
 use mathlib.Core.Path.{_≡_}
 use denote.Ref.{now}
-use Rattle.primitive.specs.Paper.{Paper}
-use Rattle.primitive.specs.Paper.Paper.{refuses}
-use Rattle.primitive.specs.Calls.{«PointerSize::bytes_num», «cursor::Width::bytes_num», «cursor::stands_at», «cursor::before», «cursor::Cursor::new», «cursor::Cursor::number», «cursor::Cursor::skip», «cursor::Cursor::bytes», «cursor::Cursor::part», «cursor::Cursor::mark», «cursor::Cursor::begins», «cursor::Cursor::string», «primitive::parse_u8», «primitive::parse_u16», «primitive::parse_u32», «primitive::parse_u64», «primitive::parse_char», «primitive::parse_i8», «primitive::parse_i16», «primitive::parse_i32», «primitive::parse_i64», «primitive::parse_f32», «primitive::parse_f64», «primitive::blender_name_char», «primitive::blender_name_i8», «primitive::blender_name_u8», «primitive::blender_name_u16», «primitive::blender_name_i16», «primitive::blender_name_i32», «primitive::blender_name_u32», «primitive::blender_name_f32», «primitive::blender_name_f64», «primitive::blender_name_u64», «primitive::blender_name_i64»}
+use Rattle.bytes.specs.Paper.{Paper}
+use Rattle.bytes.specs.Paper.Paper.{refuses}
+use Rattle.bytes.specs.Calls.{«Fault::refusal», «PointerSize::bytes_num», «cursor::Width::bytes_num», «cursor::stands_at», «cursor::before», «cursor::Cursor::new», «cursor::Cursor::number», «cursor::Cursor::skip», «cursor::Cursor::bytes», «cursor::Cursor::part», «cursor::Cursor::mark», «cursor::Cursor::begins», «cursor::Cursor::string»}
+use Rattle.primitive.specs.Calls.{«primitive::parse_u8», «primitive::parse_u16», «primitive::parse_u32», «primitive::parse_u64», «primitive::parse_char», «primitive::parse_i8», «primitive::parse_i16», «primitive::parse_i32», «primitive::parse_i64», «primitive::parse_f32», «primitive::parse_f64», «primitive::blender_name_char», «primitive::blender_name_i8», «primitive::blender_name_u8», «primitive::blender_name_u16», «primitive::blender_name_i16», «primitive::blender_name_i32», «primitive::blender_name_u32», «primitive::blender_name_f32», «primitive::blender_name_f64», «primitive::blender_name_u64», «primitive::blender_name_i64»}
 use Rattle.field.specs.Calls.{«field::fn_pointer», «field::scan_field», «field::parse_field», «field::width»}
 use Rattle.dna.specs.Calls.{«dna::dna_counts», «dna::dna»}
-use Rattle.blend.specs.Calls.{«FileFormat::header_len», «FileFormat::block_header_len», «Header::new», «BlockHeader::new», «Kind::of_code», «blend::pointer_size», «blend::endianness», «blend::version», «blend::header», «blend::refusal_of», «blend::block_header_code», «blend::blend», «walker::Place::start», «walker::Place::step»}
+use Rattle.header.specs.Calls.{«FileFormat::header_len», «FileFormat::block_header_len», «Header::new», «blend::pointer_size», «blend::endianness», «blend::version», «blend::header», «blend::refusal_of»}
+use Rattle.blend.specs.Calls.{«BlockHeader::new», «Kind::of_code», «About::new», «Kind::about», «blend::boundary_at», «blend::block_header_code», «blend::blend»}
+use Rattle.walker.specs.Calls.{«Place::start», «Place::step»}
 use Rattle.runtime.specs.Calls.{«runtime::view», «runtime::view_part», «runtime::matches», «runtime::get_ptr», «runtime::code»}
 use Rattle.held.specs.Calls.{«step_at», «over», «next», «moved», «step_from», «row_is», «find_row», «find_in»}
 use Rattle.exports.specs.Calls.{«blend_header», «blend_read», «blend_catalogue», «blend_field», «blend_width», «blend_view», «blend_lookup», «blend_u8», «blend_u16», «blend_u32», «blend_u64»}
@@ -17,10 +20,13 @@ use Rattle.demands.specs.Calls.{«read», «read_two»}
 use Rattle.field.specs.Declarators.{paperField}
 use Rattle.dna.specs.Catalogue.{paperTables}
 use Rattle.blend.specs.Chain.{paperBlend}
+use Rattle.bytes.proofs as bytes
 use Rattle.primitive.proofs as primitive
 use Rattle.field.proofs as field
 use Rattle.dna.proofs as dna
+use Rattle.header.proofs as header
 use Rattle.blend.proofs as blend
+use Rattle.walker.proofs as walker
 use Rattle.runtime.proofs as runtime
 use Rattle.held.proofs as held
 use Rattle.exports.proofs as exports
@@ -29,18 +35,19 @@ use Rattle.promises.specs.Keeps.{Public}
 use Rattle.promises.specs.Keeps.Public.{call, shows, lends}
 
 pub data PublicCall : Type 0 where
-  «primitive::PointerSize::bytes_num» : PublicCall
-  «primitive::cursor::Width::bytes_num» : PublicCall
-  «primitive::cursor::stands_at» : PublicCall
-  «primitive::cursor::before» : PublicCall
-  «primitive::cursor::Cursor::new» : PublicCall
-  «primitive::cursor::Cursor::number» : PublicCall
-  «primitive::cursor::Cursor::skip» : PublicCall
-  «primitive::cursor::Cursor::bytes» : PublicCall
-  «primitive::cursor::Cursor::part» : PublicCall
-  «primitive::cursor::Cursor::mark» : PublicCall
-  «primitive::cursor::Cursor::begins» : PublicCall
-  «primitive::cursor::Cursor::string» : PublicCall
+  «bytes::PointerSize::bytes_num» : PublicCall
+  «bytes::Fault::refusal» : PublicCall
+  «bytes::cursor::Width::bytes_num» : PublicCall
+  «bytes::cursor::stands_at» : PublicCall
+  «bytes::cursor::before» : PublicCall
+  «bytes::cursor::Cursor::new» : PublicCall
+  «bytes::cursor::Cursor::number» : PublicCall
+  «bytes::cursor::Cursor::skip» : PublicCall
+  «bytes::cursor::Cursor::bytes» : PublicCall
+  «bytes::cursor::Cursor::part» : PublicCall
+  «bytes::cursor::Cursor::mark» : PublicCall
+  «bytes::cursor::Cursor::begins» : PublicCall
+  «bytes::cursor::Cursor::string» : PublicCall
   «primitive::primitive::parse_u8» : PublicCall
   «primitive::primitive::parse_u16» : PublicCall
   «primitive::primitive::parse_u32» : PublicCall
@@ -69,20 +76,23 @@ pub data PublicCall : Type 0 where
   «field::field::width» : PublicCall
   «dna::dna::dna_counts» : PublicCall
   «dna::dna::dna» : PublicCall
-  «blend::FileFormat::header_len» : PublicCall
-  «blend::FileFormat::block_header_len» : PublicCall
-  «blend::Header::new» : PublicCall
+  «header::FileFormat::header_len» : PublicCall
+  «header::FileFormat::block_header_len» : PublicCall
+  «header::Header::new» : PublicCall
   «blend::BlockHeader::new» : PublicCall
   «blend::Kind::of_code» : PublicCall
-  «blend::blend::pointer_size» : PublicCall
-  «blend::blend::endianness» : PublicCall
-  «blend::blend::version» : PublicCall
-  «blend::blend::header» : PublicCall
-  «blend::blend::refusal_of» : PublicCall
+  «blend::About::new» : PublicCall
+  «blend::Kind::about» : PublicCall
+  «header::blend::pointer_size» : PublicCall
+  «header::blend::endianness» : PublicCall
+  «header::blend::version» : PublicCall
+  «header::blend::header» : PublicCall
+  «header::blend::refusal_of» : PublicCall
   «blend::blend::block_header_code» : PublicCall
+  «blend::blend::boundary_at» : PublicCall
   «blend::blend::blend» : PublicCall
-  «blend::walker::Place::start» : PublicCall
-  «blend::walker::Place::step» : PublicCall
+  «walker::Place::start» : PublicCall
+  «walker::Place::step» : PublicCall
   «runtime::runtime::view» : PublicCall
   «runtime::runtime::view_part» : PublicCall
   «runtime::runtime::matches» : PublicCall
@@ -118,18 +128,19 @@ abbrev pub Nonzero : ℕ → Type 0
 Nonzero n = n ≡ 0 → ⊥
 
 abbrev pub publicCall : PublicCall → Public
-publicCall «primitive::PointerSize::bytes_num» = call primitive.PointerSize.bytes_num.ended primitive.PointerSize.bytes_num.Symbol.routine (λ κs (self, _) r e. «PointerSize::bytes_num» self r)
-publicCall «primitive::cursor::Width::bytes_num» = call primitive.cursor.Width.bytes_num.ended primitive.cursor.Width.bytes_num.Symbol.routine (λ κs (self, _) r e. «cursor::Width::bytes_num» self r)
-publicCall «primitive::cursor::stands_at» = call primitive.cursor.stands_at.ended primitive.cursor.stands_at.Symbol.routine (λ κs (s, (at, (m, _))) r e. «cursor::stands_at» (now s) at (now m) r)
-publicCall «primitive::cursor::before» = call primitive.cursor.before.ended primitive.cursor.before.Symbol.routine (λ κs (s, (c, _)) r e. «cursor::before» (now s) c r)
-publicCall «primitive::cursor::Cursor::new» = call primitive.cursor.Cursor.new.ended primitive.cursor.Cursor.new.Symbol.routine (λ κs (at, _) r e. «cursor::Cursor::new» at r)
-publicCall «primitive::cursor::Cursor::number» = call primitive.cursor.Cursor.number.ended primitive.cursor.Cursor.number.Symbol.routine (λ κs (self, (s, (width, (order, _)))) r e. «cursor::Cursor::number» self (now s) width order r)
-publicCall «primitive::cursor::Cursor::skip» = call primitive.cursor.Cursor.skip.ended primitive.cursor.Cursor.skip.Symbol.routine (λ κs (self, (s, (n, _))) r e. «cursor::Cursor::skip» self (now s) n r)
-publicCall «primitive::cursor::Cursor::bytes» = call primitive.cursor.Cursor.bytes.ended primitive.cursor.Cursor.bytes.Symbol.routine (λ κs (self, (s, (n, _))) r e. «cursor::Cursor::bytes» self (now s) n r)
-publicCall «primitive::cursor::Cursor::part» = shows primitive.cursor.Cursor.part.ended primitive.cursor.Cursor.part.Symbol.routine (λ κs r. now r) (λ κs (self, (s, (n, _))) r e. «cursor::Cursor::part» self (now s) n (now r))
-publicCall «primitive::cursor::Cursor::mark» = call primitive.cursor.Cursor.mark.ended primitive.cursor.Cursor.mark.Symbol.routine (λ κs (self, (s, (m, _))) r e. «cursor::Cursor::mark» self (now s) (now m) r)
-publicCall «primitive::cursor::Cursor::begins» = call primitive.cursor.Cursor.begins.ended primitive.cursor.Cursor.begins.Symbol.routine (λ κs (self, (s, (m, _))) r e. «cursor::Cursor::begins» self (now s) (now m) r)
-publicCall «primitive::cursor::Cursor::string» = call primitive.cursor.Cursor.string.ended primitive.cursor.Cursor.string.Symbol.routine (λ κs (self, (s, _)) r e. «cursor::Cursor::string» self (now s) r)
+publicCall «bytes::PointerSize::bytes_num» = call bytes.PointerSize.bytes_num.ended bytes.PointerSize.bytes_num.Symbol.routine (λ κs (self, _) r e. «PointerSize::bytes_num» self r)
+publicCall «bytes::Fault::refusal» = call bytes.Fault.refusal.ended bytes.Fault.refusal.Symbol.routine (λ κs (self, _) r e. «Fault::refusal» self r)
+publicCall «bytes::cursor::Width::bytes_num» = call bytes.cursor.Width.bytes_num.ended bytes.cursor.Width.bytes_num.Symbol.routine (λ κs (self, _) r e. «cursor::Width::bytes_num» self r)
+publicCall «bytes::cursor::stands_at» = call bytes.cursor.stands_at.ended bytes.cursor.stands_at.Symbol.routine (λ κs (s, (at, (m, _))) r e. «cursor::stands_at» (now s) at (now m) r)
+publicCall «bytes::cursor::before» = call bytes.cursor.before.ended bytes.cursor.before.Symbol.routine (λ κs (s, (c, _)) r e. «cursor::before» (now s) c r)
+publicCall «bytes::cursor::Cursor::new» = call bytes.cursor.Cursor.new.ended bytes.cursor.Cursor.new.Symbol.routine (λ κs (at, _) r e. «cursor::Cursor::new» at r)
+publicCall «bytes::cursor::Cursor::number» = call bytes.cursor.Cursor.number.ended bytes.cursor.Cursor.number.Symbol.routine (λ κs (self, (s, (width, (order, _)))) r e. «cursor::Cursor::number» self (now s) width order r)
+publicCall «bytes::cursor::Cursor::skip» = call bytes.cursor.Cursor.skip.ended bytes.cursor.Cursor.skip.Symbol.routine (λ κs (self, (s, (n, _))) r e. «cursor::Cursor::skip» self (now s) n r)
+publicCall «bytes::cursor::Cursor::bytes» = call bytes.cursor.Cursor.bytes.ended bytes.cursor.Cursor.bytes.Symbol.routine (λ κs (self, (s, (n, _))) r e. «cursor::Cursor::bytes» self (now s) n r)
+publicCall «bytes::cursor::Cursor::part» = shows bytes.cursor.Cursor.part.ended bytes.cursor.Cursor.part.Symbol.routine (λ κs r. now r) (λ κs (self, (s, (n, _))) r e. «cursor::Cursor::part» self (now s) n (now r))
+publicCall «bytes::cursor::Cursor::mark» = call bytes.cursor.Cursor.mark.ended bytes.cursor.Cursor.mark.Symbol.routine (λ κs (self, (s, (m, _))) r e. «cursor::Cursor::mark» self (now s) (now m) r)
+publicCall «bytes::cursor::Cursor::begins» = call bytes.cursor.Cursor.begins.ended bytes.cursor.Cursor.begins.Symbol.routine (λ κs (self, (s, (m, _))) r e. «cursor::Cursor::begins» self (now s) (now m) r)
+publicCall «bytes::cursor::Cursor::string» = call bytes.cursor.Cursor.string.ended bytes.cursor.Cursor.string.Symbol.routine (λ κs (self, (s, _)) r e. «cursor::Cursor::string» self (now s) r)
 publicCall «primitive::primitive::parse_u8» = call primitive.primitive.parse_u8.ended primitive.primitive.parse_u8.Symbol.routine (λ κs (slice, (endianness, _)) r e. «primitive::parse_u8» (now slice) endianness r)
 publicCall «primitive::primitive::parse_u16» = call primitive.primitive.parse_u16.ended primitive.primitive.parse_u16.Symbol.routine (λ κs (slice, (endianness, _)) r e. «primitive::parse_u16» (now slice) endianness r)
 publicCall «primitive::primitive::parse_u32» = call primitive.primitive.parse_u32.ended primitive.primitive.parse_u32.Symbol.routine (λ κs (slice, (endianness, _)) r e. «primitive::parse_u32» (now slice) endianness r)
@@ -162,22 +173,25 @@ publicCall «dna::dna::dna_counts» = call dna.dna.dna_counts.ended dna.dna.dna_
 publicCall «dna::dna::dna» =
     lends dna.dna.dna.ended dna.dna.dna.Symbol.routine (λ κs (payload, (endianness, (names, (types, (structs, (fields, _)))))) r (_, (_, (names′, (types′, (structs′, (fields′, _)))))). «dna::dna» (now payload) endianness (now names) (now types) (now structs) (now fields) r (now names′) (now types′) (now structs′) (now fields′))
     (λ κs (_, (_, (names, (types, (structs, (fields, _)))))) r (_, (_, (names′, (types′, (structs′, (fields′, _)))))). Refused (paperTables r) → (names′ ≡ now names) × (types′ ≡ now types) × (structs′ ≡ now structs) × (fields′ ≡ now fields))
-publicCall «blend::FileFormat::header_len» = call blend.FileFormat.header_len.ended blend.FileFormat.header_len.Symbol.routine (λ κs (self, _) r e. «FileFormat::header_len» self r)
-publicCall «blend::FileFormat::block_header_len» = call blend.FileFormat.block_header_len.ended blend.FileFormat.block_header_len.Symbol.routine (λ κs (self, («pointer_size», _)) r e. «FileFormat::block_header_len» self «pointer_size» r)
-publicCall «blend::Header::new» = call blend.Header.new.ended blend.Header.new.Symbol.routine (λ κs («pointer_size», (endianness, (version, (format, _)))) r e. «Header::new» «pointer_size» endianness version format r)
+publicCall «header::FileFormat::header_len» = call header.FileFormat.header_len.ended header.FileFormat.header_len.Symbol.routine (λ κs (self, _) r e. «FileFormat::header_len» self r)
+publicCall «header::FileFormat::block_header_len» = call header.FileFormat.block_header_len.ended header.FileFormat.block_header_len.Symbol.routine (λ κs (self, («pointer_size», _)) r e. «FileFormat::block_header_len» self «pointer_size» r)
+publicCall «header::Header::new» = call header.Header.new.ended header.Header.new.Symbol.routine (λ κs («pointer_size», (endianness, (version, (format, _)))) r e. «Header::new» «pointer_size» endianness version format r)
 publicCall «blend::BlockHeader::new» = call blend.BlockHeader.new.ended blend.BlockHeader.new.Symbol.routine (λ κs (code, (size, (address, (index, (count, _))))) r e. «BlockHeader::new» code size address index count r)
 publicCall «blend::Kind::of_code» = call blend.Kind.of_code.ended blend.Kind.of_code.Symbol.routine (λ κs (code, _) r e. «Kind::of_code» code r)
-publicCall «blend::blend::pointer_size» = call blend.blend.pointer_size.ended blend.blend.pointer_size.Symbol.routine (λ κs (c, (s, _)) r e. «blend::pointer_size» c (now s) r)
-publicCall «blend::blend::endianness» = call blend.blend.endianness.ended blend.blend.endianness.Symbol.routine (λ κs (c, (s, _)) r e. «blend::endianness» c (now s) r)
-publicCall «blend::blend::version» = call blend.blend.version.ended blend.blend.version.Symbol.routine (λ κs (c, (s, _)) r e. «blend::version» c (now s) r)
-publicCall «blend::blend::header» = call blend.blend.header.ended blend.blend.header.Symbol.routine (λ κs (file, _) r e. «blend::header» (now file) r)
-publicCall «blend::blend::refusal_of» = call blend.blend.refusal_of.ended blend.blend.refusal_of.Symbol.routine (λ κs (answer, _) r e. «blend::refusal_of» answer r)
+publicCall «blend::About::new» = call blend.About.new.ended blend.About.new.Symbol.routine (λ κs (takes, (found, (coded, (dna, _)))) r e. «About::new» takes found coded dna r)
+publicCall «blend::Kind::about» = call blend.Kind.about.ended blend.Kind.about.Symbol.routine (λ κs (self, _) r e. «Kind::about» self r)
+publicCall «header::blend::pointer_size» = call header.blend.pointer_size.ended header.blend.pointer_size.Symbol.routine (λ κs (c, (s, _)) r e. «blend::pointer_size» c (now s) r)
+publicCall «header::blend::endianness» = call header.blend.endianness.ended header.blend.endianness.Symbol.routine (λ κs (c, (s, _)) r e. «blend::endianness» c (now s) r)
+publicCall «header::blend::version» = call header.blend.version.ended header.blend.version.Symbol.routine (λ κs (c, (s, _)) r e. «blend::version» c (now s) r)
+publicCall «header::blend::header» = call header.blend.header.ended header.blend.header.Symbol.routine (λ κs (file, _) r e. «blend::header» (now file) r)
+publicCall «header::blend::refusal_of» = call header.blend.refusal_of.ended header.blend.refusal_of.Symbol.routine (λ κs (answer, _) r e. «blend::refusal_of» answer r)
 publicCall «blend::blend::block_header_code» = call blend.blend.block_header_code.ended blend.blend.block_header_code.Symbol.routine (λ κs (c, (s, _)) r e. «blend::block_header_code» c (now s) r)
+publicCall «blend::blend::boundary_at» = call blend.blend.boundary_at.ended blend.blend.boundary_at.Symbol.routine (λ κs (s, (h, (at, _))) r e. «blend::boundary_at» (now s) h at r)
 publicCall «blend::blend::blend» =
     lends blend.blend.blend.ended blend.blend.blend.Symbol.routine (λ κs (file, (table, _)) r (_, (table′, _)). «blend::blend» (now file) (now table) r (now table′))
     (λ κs (_, (table, _)) r (_, (table′, _)). Refused (paperBlend r) → table′ ≡ now table)
-publicCall «blend::walker::Place::start» = call blend.walker.Place.start.ended blend.walker.Place.start.Symbol.routine (λ κs a r e. «walker::Place::start» r)
-publicCall «blend::walker::Place::step» = call blend.walker.Place.step.ended blend.walker.Place.step.Symbol.routine (λ κs (self, (file, _)) r e. «walker::Place::step» self (now file) r)
+publicCall «walker::Place::start» = call walker.Place.start.ended walker.Place.start.Symbol.routine (λ κs a r e. «Place::start» r)
+publicCall «walker::Place::step» = call walker.Place.step.ended walker.Place.step.Symbol.routine (λ κs (self, (file, _)) r e. «Place::step» self (now file) r)
 publicCall «runtime::runtime::view» = call runtime.runtime.view.ended runtime.runtime.view.Symbol.routine (λ κs (file, (table, (row, _))) r e. «runtime::view» (now file) (now table) row r)
 publicCall «runtime::runtime::view_part» = shows runtime.runtime.view_part.ended runtime.runtime.view_part.Symbol.routine (λ κs r. now r) (λ κs (file, (table, (row, _))) r e. «runtime::view_part» (now file) (now table) row (now r))
 publicCall «runtime::runtime::matches» = call runtime.runtime.matches.ended runtime.runtime.matches.Symbol.routine (λ κs (wanted, (code, (address, _))) r e. «runtime::matches» wanted code address r)

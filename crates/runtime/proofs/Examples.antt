@@ -2,8 +2,8 @@
 use Prim.Native.Nat.{ℕ}
 use mathlib.Core.List.{List, [], _∷_, _++_}
 use mathlib.Core.Path.{_≡_, refl}
-use Rattle.primitive.specs.Paper.Paper.{accepts, refuses}
-use Rattle.blend.specs.Blocks.{kindOf, block}
+use Rattle.bytes.specs.Paper.Paper.{accepts, refuses}
+use Rattle.blend.specs.Blocks.{kindOf}
 use Rattle.runtime.specs.Views.{viewAs, partAs}
 use Rattle.runtime.specs.Addresses.{seek, lookupAs, codeAs}
 

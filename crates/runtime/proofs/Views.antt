@@ -6,35 +6,36 @@ use mathlib.Core.Path.{_≡_, refl, sym, _∙_, ap}
 use native.Mathlib.Omega.{arith}
 use borrow.Author.Tests.{lt-ltb, le-ltb, eq-eqb, ne-eqb, le-leb}
 use lib.ListN.{length}
-use Rattle.primitive.specs.declared.Fault.{Fault}
-use Rattle.primitive.specs.declared.Fault.the-variants.{Cut}
-use Rattle.primitive.specs.Cursor.{partOf}
-use Rattle.primitive.specs.Paper.{Paper}
-use Rattle.primitive.specs.Paper.Paper.{accepts}
-use Rattle.primitive.specs.Reader.{Outcome, run, room}
-use Rattle.primitive.specs.Reader.Reader.{done, skip}
-use Rattle.primitive.specs.Reader.Outcome.{read, fault}
-use Rattle.primitive.specs.Refusals.{notThere}
-use Rattle.primitive.proofs.Tests.{held, failed}
-use Rattle.runtime.specs.Views.{cell, isThere, viewAs, partAs}
+use Rattle.bytes.specs.declared.Fault.{Fault}
+use Rattle.bytes.specs.declared.Fault.the-variants.{Cut}
+use Rattle.bytes.specs.Cursor.{partOf}
+use Rattle.bytes.specs.Paper.{Paper}
+use Rattle.bytes.specs.Paper.Paper.{accepts}
+use Rattle.bytes.specs.Reader.{Outcome, run, room}
+use Rattle.bytes.specs.Reader.Reader.{done, skip}
+use Rattle.bytes.specs.Reader.Outcome.{read, fault}
+use Rattle.bytes.specs.Refusals.{notThere}
+use Rattle.bytes.proofs.Tests.{held, failed}
+use Rattle.blend.specs.Rows.{perRow, Column, cell}
+use Rattle.runtime.specs.Views.{isThere, viewAs, partAs}
 use Rattle.runtime.specs.Addresses.{matches, null, found, missing, seek, lookupAs}
-use Rattle.blend.proofs.Rows.{skip-room}
+use Rattle.bytes.proofs.Parts.{skip-room}
 
 module _ (s t : List ℕ) (row : ℕ) where
-  no-row : length t / 7 ≤ row → isThere s t row ≡ false
-  no-row h = ap (λ (b : Bool). b && room s (cell t row 5) (cell t row 6)) (le-ltb _ _ h)
+  no-row : length t / perRow ≤ row → isThere s t row ≡ false
+  no-row h = ap (λ (b : Bool). b && room s (cell t row Column.payload) (cell t row Column.len)) (le-ltb _ _ h)
 
-  pub view-no-row : length t / 7 ≤ row → notThere ≡ viewAs s t row
+  pub view-no-row : length t / perRow ≤ row → notThere ≡ viewAs s t row
   unfolding viewAs
   view-no-row h = sym (failed _ _ (no-row h))
 
-  pub part-no-row : length t / 7 ≤ row → [] ≡ partAs s t row
+  pub part-no-row : length t / perRow ≤ row → [] ≡ partAs s t row
   unfolding partAs
   part-no-row h = sym (failed _ _ (no-row h))
 
-  module _ (h : row < length t / 7) (at n : ℕ) (a : at ≡ cell t row 5) (b : n ≡ cell t row 6) where
+  module _ (h : row < length t / perRow) (at n : ℕ) (a : at ≡ cell t row Column.payload) (b : n ≡ cell t row Column.len) where
     by-room : isThere s t row ≡ room s at n
-    by-room = ap (λ (c : Bool). c && room s (cell t row 5) (cell t row 6)) (lt-ltb _ _ h) ∙ rw (a, b) refl
+    by-room = ap (λ (c : Bool). c && room s (cell t row Column.payload) (cell t row Column.len)) (lt-ltb _ _ h) ∙ rw (a, b) refl
 
     pub view-there : (next : ℕ) → _≡_ {A = Outcome (Unit {0})} (read tt next) (run (skip n (done tt)) s at) → accepts 0 [] ≡ viewAs s t row
     unfolding viewAs
@@ -79,13 +80,13 @@ seek-starts p n =
 -- the search, a row a turn
 module _ (t : List ℕ) (rows address : ℕ) where
   pub at-row : ℕ → Bool
-  at-row row = matches address (cell t row 0) (cell t row 1)
+  at-row row = matches address (cell t row Column.code) (cell t row Column.address)
 
-  pub lookup-short : length t / 7 < rows → notThere ≡ lookupAs t rows address
+  pub lookup-short : length t / perRow < rows → notThere ≡ lookupAs t rows address
   unfolding lookupAs
   lookup-short h = sym (held _ _ (lt-ltb _ _ h))
 
-  module _ (h : rows ≤ length t / 7) where
+  module _ (h : rows ≤ length t / perRow) where
     pub lookup-null : address ≡ 0 → null ≡ lookupAs t rows address
     unfolding lookupAs
     lookup-null e = sym (failed _ _ (le-ltb _ _ h) ∙ held _ _ (eq-eqb _ _ e))
@@ -96,7 +97,7 @@ module _ (t : List ℕ) (rows address : ℕ) where
 
   -- what is left of the search from a row on
   module _ (row : ℕ) (w : lookupAs t rows address ≡ seek at-row (rows - row) row) where
-    module _ (l : row < rows) (b : Bool) (c d : ℕ) (e : b ≡ matches address c d) (f : c ≡ cell t row 0) (g : d ≡ cell t row 1) where
+    module _ (l : row < rows) (b : Bool) (c d : ℕ) (e : b ≡ matches address c d) (f : c ≡ cell t row Column.code) (g : d ≡ cell t row Column.address) where
       here : at-row row ≡ b
       unfolding at-row
       here = sym (e ∙ rw (f, g) refl)

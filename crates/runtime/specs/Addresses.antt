@@ -4,25 +4,18 @@ use mathlib.Core.Bool.{Bool, true, false, _&&_}
 use mathlib.Core.List.{List, [], _∷_}
 use lib.Dec.{ltb, eqb}
 use lib.ListN.{length}
-use Rattle.primitive.specs.Paper.{Paper}
-use Rattle.primitive.specs.Paper.Paper.{accepts}
-use Rattle.primitive.specs.Refusals.{notThere}
+use Rattle.bytes.specs.Paper.{Paper}
+use Rattle.bytes.specs.Paper.Paper.{accepts, refuses}
+use Rattle.bytes.specs.Refusals.{notThere}
 use Rattle.blend.specs.declared.Kind.{Kind}
 use Rattle.runtime.specs.declared.runtime.Pointer.{Pointer}
 use Rattle.runtime.specs.declared.runtime.BlockCode.{BlockCode}
-use Rattle.blend.specs.Blocks.{kindOf}
-use Rattle.blend.specs.Chain.{perRow}
-use Rattle.runtime.specs.Views.{cell}
+use Rattle.blend.specs.Blocks.{kindOf, about}
+use Rattle.blend.specs.Rows.{Column, perRow, cell}
 
 -- Principal and Subsidiary (DATA) rows are found by their address.
 abbrev pub isFound : Kind → Bool
-isFound Kind.Rend = false
-isFound Kind.Test = false
-isFound Kind.Global = false
-isFound Kind.Subsidiary = true
-isFound Kind.Dna = false
-isFound Kind.Principal = true
-isFound Kind.Unknown = false
+isFound k = about k .found
 
 -- whether a row with this code and this address answers the search
 abbrev pub matches : ℕ → ℕ → ℕ → Bool
@@ -49,27 +42,21 @@ unfolding seek
 lookupAs t rows address =
     elim (ltb (length t / perRow) rows) [
       | true ↦ notThere
-      | false ↦ elim (eqb address 0) [ true ↦ null | false ↦ seek (λ row. matches address (cell t row 0) (cell t row 1)) rows 0 ]
+      | false ↦ elim (eqb address 0) [ true ↦ null | false ↦ seek (λ row. matches address (cell t row Column.code) (cell t row Column.address)) rows 0 ]
     ]
 
 abbrev pub paperPointer : Pointer → Paper
 paperPointer Pointer.Null = null
 paperPointer (Pointer.Block row) = found row
 paperPointer Pointer.Missing = missing
-paperPointer Pointer.NotThere = notThere
+paperPointer (Pointer.Refused n) = refuses n []
 
 -- The code asked of a block is its 4 bytes (answer 0); of a DATA block, none (1), and none of a number that is no block code.
 abbrev pub fourBytes : ℕ → List ℕ
 fourBytes n = n / 2 ^ 24 % 256 ∷ n / 2 ^ 16 % 256 ∷ n / 2 ^ 8 % 256 ∷ n % 256 ∷ []
 
 abbrev pub hasCode : Kind → Bool
-hasCode Kind.Rend = true
-hasCode Kind.Test = true
-hasCode Kind.Global = true
-hasCode Kind.Subsidiary = false
-hasCode Kind.Dna = true
-hasCode Kind.Principal = true
-hasCode Kind.Unknown = false
+hasCode k = about k .coded
 
 unfoldable pub codeAs : ℕ → Paper
 codeAs n = elim (hasCode (kindOf n)) [ true ↦ accepts 0 (fourBytes n) | false ↦ accepts 1 [] ]

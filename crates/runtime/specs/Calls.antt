@@ -1,4 +1,4 @@
--- What each public call promises, by its name (crates/primitive/specs/Calls.antt says how to read it).
+-- What each public call promises, by its name (crates/bytes/specs/Calls.antt says how to read it).
 use Prim.Native.Nat.{ℕ}
 use mathlib.Core.Bool.{Bool}
 use mathlib.Core.List.{List}

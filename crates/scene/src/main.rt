@@ -1,20 +1,20 @@
-// Reads the examples of files and nine real scenes: prints the blocks, walks them, and asks for their views, addresses and codes. The file
-// stdout has what that has to be.
-use blend::FileFormat;
-use blend::Header;
+// Reads the examples of files and nine real scenes: prints the blocks, walks them, and asks for their views, addresses and codes; then the
+// catalogue of a real scene, in both byte orders. The file stdout has what that has to be.
+mod catalogue;
+
 use blend::Row;
 use blend::blend::BlendAnswer;
-use blend::blend::HeaderAnswer;
 use blend::blend::blend;
-use blend::blend::header;
-use blend::walker::Place;
-use blend::walker::Step;
+use bytes::Endianness;
+use bytes::PointerSize;
 use dna::dna::DnaCounts;
+use header::FileFormat;
+use header::Header;
+use header::blend::HeaderAnswer;
+use header::blend::header;
 use held::find_in;
 use held::step_from;
 use libc::STDOUT_FILENO;
-use primitive::Endianness;
-use primitive::PointerSize;
 use runtime::runtime::BlockCode;
 use runtime::runtime::Pointer;
 use runtime::runtime::ViewAnswer;
@@ -22,6 +22,8 @@ use runtime::runtime::code;
 use runtime::runtime::get_ptr;
 use runtime::runtime::view;
 use runtime::runtime::view_part;
+use walker::Place;
+use walker::Step;
 
 // What a table holds before a call: as a code it is none, and as an offset it lies past every file.
 const FILL: u64 = 1000000007;
@@ -129,13 +131,13 @@ fn header_line(file: &[u8]) {
 fn block_line(table: &[u64], row: usize) {
     number(b"block ", row as u64);
     text(b" ");
-    hex(cell(table, row, 0), 8);
-    number(b" ", cell(table, row, 1));
-    number(b" ", cell(table, row, 2));
-    number(b" ", cell(table, row, 3));
-    number(b" ", cell(table, row, 4));
-    number(b" ", cell(table, row, 5));
-    number(b" ", cell(table, row, 6));
+    hex(cell(table, row, Row::CODE), 8);
+    number(b" ", cell(table, row, Row::ADDRESS));
+    number(b" ", cell(table, row, Row::INDEX));
+    number(b" ", cell(table, row, Row::COUNT));
+    number(b" ", cell(table, row, Row::AT));
+    number(b" ", cell(table, row, Row::PAYLOAD));
+    number(b" ", cell(table, row, Row::LEN));
     text(b"\n");
 }
 
@@ -144,7 +146,7 @@ fn view_of(file: &[u8], table: &[u64], row: usize) {
     number(b"view ", row as u64);
     match view(file, table, row) {
         ViewAnswer::There => text(b" there"),
-        ViewAnswer::NotThere => text(b" refused 13"),
+        ViewAnswer::Refused(_) => text(b" refused 13"),
     }
     let part = view_part(file, table, row);
     number(b" length ", part.len() as u64);
@@ -159,7 +161,7 @@ fn pointer(rows: usize, address: u64, found: Pointer) {
         Pointer::Null => text(b" null"),
         Pointer::Block(row) => number(b" row ", row as u64),
         Pointer::Missing => text(b" missing"),
-        Pointer::NotThere => text(b" refused 13"),
+        Pointer::Refused(_) => text(b" refused 13"),
     }
 }
 
@@ -201,9 +203,9 @@ fn code_line(n: u64) {
 fn asked_line(file: &[u8], table: &[u64], rows: usize, row: usize) {
     view_of(file, table, row);
     text(b" ");
-    pointer_to(table, rows, cell(table, row, 1));
+    pointer_to(table, rows, cell(table, row, Row::ADDRESS));
     text(b" ");
-    code_line(cell(table, row, 0));
+    code_line(cell(table, row, Row::CODE));
 }
 
 // What a line for each row is to say.
@@ -266,25 +268,25 @@ fn list(answer: BlendAnswer, file: &[u8], table: &[u64]) -> usize {
 }
 
 fn is_row(table: &[u64], row: usize, r: Row) -> bool {
-    if cell(table, row, 0) != r.code {
+    if cell(table, row, Row::CODE) != r.code {
         return false;
     }
-    if cell(table, row, 1) != r.address {
+    if cell(table, row, Row::ADDRESS) != r.address {
         return false;
     }
-    if cell(table, row, 2) != r.index {
+    if cell(table, row, Row::INDEX) != r.index {
         return false;
     }
-    if cell(table, row, 3) != r.count {
+    if cell(table, row, Row::COUNT) != r.count {
         return false;
     }
-    if cell(table, row, 4) != r.at {
+    if cell(table, row, Row::AT) != r.at {
         return false;
     }
-    if cell(table, row, 5) != r.payload {
+    if cell(table, row, Row::PAYLOAD) != r.payload {
         return false;
     }
-    cell(table, row, 6) == r.len
+    cell(table, row, Row::LEN) == r.len
 }
 
 // Whether all blocks so far were the table's rows, with one more.
@@ -398,7 +400,7 @@ fn with_enough(file: &[u8]) {
 
 // With one row.
 fn with_seven(file: &[u8]) {
-    let mut table = [FILL; 7];
+    let mut table = [FILL; Row::NUMBERS];
     text(b"table of 7 numbers\n");
     list(blend(file, &mut table), file, &table);
     kept_line(&table, 0);
@@ -495,13 +497,13 @@ fn pointers(table: &[u64], rows: usize) {
 
 fn row_of(table: &[u64], row: usize) -> Row {
     Row {
-        code: cell(table, row, 0),
-        address: cell(table, row, 1),
-        index: cell(table, row, 2),
-        count: cell(table, row, 3),
-        at: cell(table, row, 4),
-        payload: cell(table, row, 5),
-        len: cell(table, row, 6),
+        code: cell(table, row, Row::CODE),
+        address: cell(table, row, Row::ADDRESS),
+        index: cell(table, row, Row::INDEX),
+        count: cell(table, row, Row::COUNT),
+        at: cell(table, row, Row::AT),
+        payload: cell(table, row, Row::PAYLOAD),
+        len: cell(table, row, Row::LEN),
     }
 }
 
@@ -558,7 +560,20 @@ fn addresses_file() {
     );
 }
 
-fn sample(path: &[u8]) {
+// What a file of data/ holds.
+enum Held {
+    Scene,
+    Catalogue(Endianness),
+}
+
+fn held_report(held: Held, path: &[u8], file: &[u8]) {
+    match held {
+        Held::Scene => example(path, file),
+        Held::Catalogue(order) => catalogue::report(path, file, order),
+    }
+}
+
+fn sample(held: Held, path: &[u8]) {
     let file = os::open_read(path);
     if file < 0 {
         os::fail(path);
@@ -567,7 +582,26 @@ fn sample(path: &[u8]) {
     let mut buffer = [0u8; 131072];
     let n = io::read_full(file, &mut buffer);
     libc::close(file);
-    example(path, &buffer[..n]);
+    held_report(held, path, &buffer[..n]);
+}
+
+fn scenes() {
+    sample(Held::Scene, b"lamp.blend");
+    sample(Held::Scene, b"lamp_legacy32big.blend");
+    sample(Held::Scene, b"lamp_legacy32little.blend");
+    sample(Held::Scene, b"lamp_legacy64big.blend");
+    sample(Held::Scene, b"lamp_legacy64little.blend");
+    sample(Held::Scene, b"lamp_new32big.blend");
+    sample(Held::Scene, b"lamp_new32little.blend");
+    sample(Held::Scene, b"lamp_new64big.blend");
+    sample(Held::Scene, b"lamp_new64little.blend");
+}
+
+// Each in its own order, and one in the other.
+fn catalogues() {
+    sample(Held::Catalogue(Endianness::Little), b"little.sdna");
+    sample(Held::Catalogue(Endianness::Big), b"big.sdna");
+    sample(Held::Catalogue(Endianness::Little), b"big.sdna");
 }
 
 fn main() {
@@ -576,13 +610,6 @@ fn main() {
     code_of_zeros();
     faults();
     addresses_file();
-    sample(b"lamp.blend");
-    sample(b"lamp_legacy32big.blend");
-    sample(b"lamp_legacy32little.blend");
-    sample(b"lamp_legacy64big.blend");
-    sample(b"lamp_legacy64little.blend");
-    sample(b"lamp_new32big.blend");
-    sample(b"lamp_new32little.blend");
-    sample(b"lamp_new64big.blend");
-    sample(b"lamp_new64little.blend");
+    scenes();
+    catalogues();
 }

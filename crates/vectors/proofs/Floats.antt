@@ -7,11 +7,11 @@ use lib.Dec.{T, ltb}
 use lib.Ieee.{Float, Format, isNan, ofBits, nanBits}
 use lib.Ieee.Bits.{nanBits-is}
 use lib.ListN.{length, take}
-use Rattle.primitive.specs.declared.Endianness.{Endianness}
-use Rattle.primitive.specs.Number.{spelled}
-use Rattle.primitive.specs.Paper.Paper.{accepts, real, refuses}
+use Rattle.bytes.specs.declared.Endianness.{Endianness}
+use Rattle.bytes.specs.Number.{spelled}
+use Rattle.bytes.specs.Paper.Paper.{accepts, real, refuses}
 use Rattle.primitive.specs.Primitive.{valueOf, float}
-use Rattle.primitive.proofs.Tests.{held, failed}
+use Rattle.bytes.proofs.Tests.{held, failed}
 
 module _ (f : Format) (x : Float) where
   of-bits : (n : ℕ) → real x ≡ float f n → isNan x ≡ false

@@ -4,13 +4,12 @@ use crate::file::cell;
 use crate::file::refused_line;
 use crate::file::too_short_line;
 use crate::out::SIZE;
-use crate::out::bytes;
-use crate::out::end;
-use crate::out::number;
+use crate::out::line;
 use crate::out::text;
+use crate::out::wide;
 use blend::blend::BlendAnswer;
 use blend::blend::blend;
-use primitive::Endianness;
+use bytes::Endianness;
 use primitive::primitive::ValueU64;
 use primitive::primitive::parse_u64;
 use runtime::runtime::BlockCode;
@@ -20,11 +19,12 @@ use runtime::runtime::get_ptr;
 
 fn code_line(space: &mut [u8; SIZE], at: &mut usize, n: u64) {
     match code(n) {
-        BlockCode::Is(a, b, c, d) => {
-            text(space, at, b"code ");
-            bytes(space, at, &[a, b, c, d]);
-            end(space, at);
-        }
+        BlockCode::Is(a, b, c, d) => line(
+            space,
+            at,
+            b"code $$$$\n",
+            &[wide(a), wide(b), wide(c), wide(d)],
+        ),
         BlockCode::None => text(space, at, b"code none\n"),
     }
 }
@@ -40,12 +40,9 @@ fn code_lines(space: &mut [u8; SIZE], at: &mut usize, table: &[u64], rows: usize
 fn pointer_line(space: &mut [u8; SIZE], at: &mut usize, found: Pointer) {
     match found {
         Pointer::Null => text(space, at, b"null\n"),
-        Pointer::Block(row) => {
-            number(space, at, b"found ", row as u64);
-            end(space, at);
-        }
+        Pointer::Block(row) => line(space, at, b"found #\n", &[row as u64]),
         Pointer::Missing => text(space, at, b"missing\n"),
-        Pointer::NotThere => text(space, at, b"refused 13\n"),
+        Pointer::Refused(_) => text(space, at, b"refused 13\n"),
     }
 }
 
@@ -66,6 +63,6 @@ pub fn answer(space: &mut [u8; SIZE], at: &mut usize, input: &[u8]) {
         ValueU64::Is(address) => if 8 <= input.len() {
             search(space, at, &input[8..], address);
         },
-        ValueU64::Short => text(space, at, b"bad-input\n"),
+        ValueU64::Refused(_) => text(space, at, b"bad-input\n"),
     }
 }

@@ -1,16 +1,15 @@
 // Catalogues: the counts, and a line for each row of the four tables.
 use crate::out::SIZE;
+use crate::out::byte;
 use crate::out::bytes;
-use crate::out::end;
-use crate::out::number;
+use crate::out::line;
 use crate::out::text;
-use crate::out::word;
+use bytes::Endianness;
 use dna::dna::DnaCounted;
 use dna::dna::DnaCounts;
 use dna::dna::DnaTables;
 use dna::dna::dna;
 use dna::dna::dna_counts;
-use primitive::Endianness;
 
 // What a line for each row of a table is to say.
 enum Line {
@@ -39,49 +38,50 @@ fn of_three(table: &[u64], row: usize, i: usize) -> u64 {
     0
 }
 
-// A name's length and bytes, by its place in the payload.
+// A name's bytes, by its place in the payload.
 fn name(space: &mut [u8; SIZE], at: &mut usize, payload: &[u8], from: usize, len: usize) {
-    word(space, at, len as u64);
     if from <= payload.len() {
         if len <= payload.len() - from {
             if 0 < len {
-                text(space, at, b" ");
+                byte(space, at, b' ');
             }
             let to = from + len;
             bytes(space, at, &payload[from..to]);
+            byte(space, at, b'\n');
             return;
         }
     }
-    text(space, at, b" outside");
+    text(space, at, b" outside\n");
 }
 
 fn name_line(space: &mut [u8; SIZE], at: &mut usize, payload: &[u8], table: &[u64], row: usize) {
-    let from = of_two(table, row, 0) as usize;
-    let len = of_two(table, row, 1) as usize;
-    text(space, at, b"name");
-    name(space, at, payload, from, len);
-    end(space, at);
+    let from = of_two(table, row, 0);
+    let len = of_two(table, row, 1);
+    line(space, at, b"name #", &[len]);
+    name(space, at, payload, from as usize, len as usize);
 }
 
 fn type_line(space: &mut [u8; SIZE], at: &mut usize, payload: &[u8], table: &[u64], row: usize) {
-    let from = of_three(table, row, 0) as usize;
-    let len = of_three(table, row, 1) as usize;
-    number(space, at, b"type ", of_three(table, row, 2));
-    name(space, at, payload, from, len);
-    end(space, at);
+    let from = of_three(table, row, 0);
+    let len = of_three(table, row, 1);
+    line(space, at, b"type # #", &[of_three(table, row, 2), len]);
+    name(space, at, payload, from as usize, len as usize);
 }
 
 fn struct_line(space: &mut [u8; SIZE], at: &mut usize, table: &[u64], row: usize) {
-    number(space, at, b"struct ", of_three(table, row, 0));
-    word(space, at, of_three(table, row, 1));
-    word(space, at, of_three(table, row, 2));
-    end(space, at);
+    if row < table.len() / 3 {
+        let from = row * 3;
+        let to = from + 3;
+        line(space, at, b"struct # # #\n", &table[from..to]);
+    }
 }
 
 fn field_line(space: &mut [u8; SIZE], at: &mut usize, table: &[u64], row: usize) {
-    number(space, at, b"field ", of_two(table, row, 0));
-    word(space, at, of_two(table, row, 1));
-    end(space, at);
+    if row < table.len() / 2 {
+        let from = row * 2;
+        let to = from + 2;
+        line(space, at, b"field # #\n", &table[from..to]);
+    }
 }
 
 fn row_line(
@@ -116,18 +116,11 @@ fn lines(
     }
 }
 
-pub fn counts(space: &mut [u8; SIZE], at: &mut usize, n: DnaCounts) {
-    word(space, at, n.names);
-    word(space, at, n.types);
-    word(space, at, n.structs);
-    word(space, at, n.fields);
-}
-
 // The place after the last struct.
 fn last(space: &mut [u8; SIZE], at: &mut usize, payload: &[u8], order: Endianness) {
     match dna_counts(payload, order) {
-        DnaCounted::Are(_, n) => word(space, at, n as u64),
-        DnaCounted::Stopped(_) => text(space, at, b" refused 2"),
+        DnaCounted::Are(_, n) => line(space, at, b" #\n", &[n as u64]),
+        DnaCounted::Stopped(_) => text(space, at, b" refused 2\n"),
     }
 }
 
@@ -142,10 +135,13 @@ fn read_lines(
     structs: &[u64],
     fields: &[u64],
 ) {
-    text(space, at, b"dna");
-    counts(space, at, n);
+    line(
+        space,
+        at,
+        b"dna # # # #",
+        &[n.names, n.types, n.structs, n.fields],
+    );
     last(space, at, payload, order);
-    end(space, at);
     lines(space, at, Line::Name, payload, names, n.names);
     lines(space, at, Line::Type, payload, types, n.types);
     lines(space, at, Line::Struct, payload, structs, n.structs);
@@ -168,7 +164,7 @@ fn answer_in(
             read_lines(space, at, payload, order, n, names, types, structs, fields);
             true
         }
-        DnaTables::Malformed => {
+        DnaTables::Refused(_) => {
             text(space, at, b"refused 2\n");
             true
         }

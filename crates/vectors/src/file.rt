@@ -1,32 +1,31 @@
 // Whole files: the header, the rows with what their views show, and a walk that has to find the same.
-use crate::catalogue::counts;
+use crate::out::LEGACY;
+use crate::out::NEW;
 use crate::out::SIZE;
-use crate::out::end;
-use crate::out::hex;
-use crate::out::number;
-use crate::out::order_word;
+use crate::out::line;
 use crate::out::text;
-use crate::out::word;
-use blend::FileFormat;
-use blend::Header;
+use crate::out::wide;
+use crate::values::order_word;
 use blend::Row;
 use blend::blend::BlendAnswer;
-use blend::blend::HeaderAnswer;
 use blend::blend::RawBlend;
 use blend::blend::blend;
-use blend::blend::header;
-use blend::walker::Place;
-use blend::walker::Step;
-use primitive::PointerSize;
+use bytes::PointerSize;
+use header::FileFormat;
+use header::Header;
+use header::blend::HeaderAnswer;
+use header::blend::header;
 use runtime::runtime::ViewAnswer;
 use runtime::runtime::view;
 use runtime::runtime::view_part;
 use std::num::wrapping_add_u64;
+use walker::Place;
+use walker::Step;
 
 // 128 rows.
 pub const NUMBERS: usize = 128 * Row::NUMBERS;
 
-// One of a row's seven numbers; the rows that are asked for are there.
+// One of a row's numbers; the rows that are asked for are there.
 pub fn cell(table: &[u64], row: usize, i: usize) -> u64 {
     if i < Row::NUMBERS {
         if row < table.len() / Row::NUMBERS {
@@ -34,10 +33,6 @@ pub fn cell(table: &[u64], row: usize, i: usize) -> u64 {
         }
     }
     0
-}
-
-fn wide(b: u8) -> u64 {
-    b as u64
 }
 
 // Times 2^40 + 435, the factor of 64-bit FNV-1a, with what 64 bits hold of the product.
@@ -59,17 +54,17 @@ fn hash(bytes: &[u8]) -> u64 {
     h
 }
 
-fn format_word(space: &mut [u8; SIZE], at: &mut usize, format: FileFormat) {
+fn format_word(format: FileFormat) -> u64 {
     match format {
-        FileFormat::Legacy => text(space, at, b" legacy"),
-        FileFormat::New => text(space, at, b" new"),
+        FileFormat::Legacy => LEGACY,
+        FileFormat::New => NEW,
     }
 }
 
-fn size_word(space: &mut [u8; SIZE], at: &mut usize, size: PointerSize) {
+fn bits(size: PointerSize) -> u64 {
     match size {
-        PointerSize::Bits32 => text(space, at, b" 32"),
-        PointerSize::Bits64 => text(space, at, b" 64"),
+        PointerSize::Bits32 => 32,
+        PointerSize::Bits64 => 64,
     }
 }
 
@@ -78,34 +73,36 @@ fn header_words(space: &mut [u8; SIZE], at: &mut usize, h: Header) {
     let size = h.pointer_size;
     let order = h.endianness;
     let version = h.version;
-    format_word(space, at, format);
-    size_word(space, at, size);
-    order_word(space, at, order);
-    word(space, at, version.major as u64);
-    word(space, at, version.minor as u64);
+    let major = version.major as u64;
+    let minor = version.minor as u64;
+    line(
+        space,
+        at,
+        b" ~ # ~ # #",
+        &[
+            format_word(format),
+            bits(size),
+            order_word(order),
+            major,
+            minor,
+        ],
+    );
 }
 
 fn view_words(space: &mut [u8; SIZE], at: &mut usize, file: &[u8], table: &[u64], row: usize) {
     match view(file, table, row) {
-        ViewAnswer::There => {
-            text(space, at, b" ");
-            hex(space, at, hash(view_part(file, table, row)), 16);
-        }
-        ViewAnswer::NotThere => text(space, at, b" view 13"),
+        ViewAnswer::There => line(space, at, b" %\n", &[hash(view_part(file, table, row))]),
+        ViewAnswer::Refused(_) => text(space, at, b" view 13\n"),
     }
 }
 
 fn row_line(space: &mut [u8; SIZE], at: &mut usize, file: &[u8], table: &[u64], row: usize) {
-    text(space, at, b"row ");
-    hex(space, at, cell(table, row, 0), 8);
-    word(space, at, cell(table, row, 1));
-    word(space, at, cell(table, row, 2));
-    word(space, at, cell(table, row, 3));
-    word(space, at, cell(table, row, 4));
-    word(space, at, cell(table, row, 5));
-    word(space, at, cell(table, row, 6));
+    if row < table.len() / Row::NUMBERS {
+        let from = row * Row::NUMBERS;
+        let to = from + Row::NUMBERS;
+        line(space, at, b"row @ # # # # # #", &table[from..to]);
+    }
     view_words(space, at, file, table, row);
-    end(space, at);
 }
 
 fn row_lines(space: &mut [u8; SIZE], at: &mut usize, file: &[u8], table: &[u64], rows: usize) {
@@ -118,36 +115,40 @@ fn row_lines(space: &mut [u8; SIZE], at: &mut usize, file: &[u8], table: &[u64],
 
 fn read_lines(space: &mut [u8; SIZE], at: &mut usize, file: &[u8], table: &[u64], b: RawBlend) {
     let h = b.header;
-    let dna = b.dna;
+    let n = b.dna;
+    let rows = b.rows as u64;
+    let end = b.end as u64;
     text(space, at, b"file");
     header_words(space, at, h);
-    word(space, at, b.rows as u64);
-    word(space, at, b.end as u64);
-    counts(space, at, dna);
-    end(space, at);
+    line(
+        space,
+        at,
+        b" # # # # # #\n",
+        &[rows, end, n.names, n.types, n.structs, n.fields],
+    );
     row_lines(space, at, file, table, b.rows);
 }
 
 fn is_row(table: &[u64], row: usize, r: Row) -> bool {
-    if cell(table, row, 0) != r.code {
+    if cell(table, row, Row::CODE) != r.code {
         return false;
     }
-    if cell(table, row, 1) != r.address {
+    if cell(table, row, Row::ADDRESS) != r.address {
         return false;
     }
-    if cell(table, row, 2) != r.index {
+    if cell(table, row, Row::INDEX) != r.index {
         return false;
     }
-    if cell(table, row, 3) != r.count {
+    if cell(table, row, Row::COUNT) != r.count {
         return false;
     }
-    if cell(table, row, 4) != r.at {
+    if cell(table, row, Row::AT) != r.at {
         return false;
     }
-    if cell(table, row, 5) != r.payload {
+    if cell(table, row, Row::PAYLOAD) != r.payload {
         return false;
     }
-    cell(table, row, 6) == r.len
+    cell(table, row, Row::LEN) == r.len
 }
 
 fn is_end(s: Step, end: usize) -> bool {
@@ -237,13 +238,11 @@ fn walk_line(space: &mut [u8; SIZE], at: &mut usize, as_read: bool) {
 }
 
 pub fn refused_line(space: &mut [u8; SIZE], at: &mut usize, n: u64) {
-    number(space, at, b"refused ", n);
-    end(space, at);
+    line(space, at, b"refused #\n", &[n]);
 }
 
 pub fn too_short_line(space: &mut [u8; SIZE], at: &mut usize, rows: usize) {
-    number(space, at, b"refused 7 ", rows as u64);
-    end(space, at);
+    line(space, at, b"refused 7 #\n", &[rows as u64]);
 }
 
 pub fn answer(space: &mut [u8; SIZE], at: &mut usize, file: &[u8]) {
@@ -264,8 +263,7 @@ pub fn answer(space: &mut [u8; SIZE], at: &mut usize, file: &[u8]) {
 fn header_line(space: &mut [u8; SIZE], at: &mut usize, h: Header, length: usize) {
     text(space, at, b"header");
     header_words(space, at, h);
-    word(space, at, length as u64);
-    end(space, at);
+    line(space, at, b" #\n", &[length as u64]);
 }
 
 // A header by itself.

@@ -1,5 +1,6 @@
 // Answers a batch of inputs by calls of the library, in the form in which the oracle answers it by the Rust. The stored run has the examples of
-// document 01, the declarators of `edges`, and a few generated inputs for each answer.
+// document 01, declarators at the edges, and a few generated inputs for each answer. Where an argument names a file, the examples in it are run
+// first (examples.rt): the stored run has the declarators of data/, with tables that are too short, and their widths.
 //
 // Standard input holds records: a byte for the kind, the input's length in 4 bytes, little-endian, and the input. Standard output has the
 // lines of each answer and then the line `.`. Numbers are decimal; bytes, codes, hashes and floats' bits are hexadecimal.
@@ -21,16 +22,16 @@
 mod address;
 mod catalogue;
 mod declarator;
+mod examples;
 mod file;
-mod names;
 mod out;
 mod values;
 
+use bytes::Endianness;
 use libc::STDIN_FILENO;
 use out::CLOSED;
 use out::SIZE;
 use out::text;
-use primitive::Endianness;
 use primitive::primitive::ValueU32;
 use primitive::primitive::parse_u32;
 ghost use Prim.Native.Nat.{_≤_};
@@ -46,7 +47,7 @@ fn answer(space: &mut [u8; SIZE], at: &mut usize, kind: u8, bytes: &[u8]) {
         b'C' => catalogue::answer(space, at, bytes, Endianness::Little),
         b'c' => catalogue::answer(space, at, bytes, Endianness::Big),
         b'P' => values::answer(space, at, bytes),
-        b'N' => names::answer(space, at),
+        b'N' => values::names_answer(space, at),
         b'A' => address::answer(space, at, bytes),
         _ => text(space, at, b"bad-kind\n"),
     }
@@ -67,7 +68,7 @@ fn length(head: &[u8]) -> usize {
     }
     match parse_u32(&head[1..], Endianness::Little) {
         ValueU32::Is(n) => n as usize,
-        ValueU32::Short => 0,
+        ValueU32::Refused(_) => 0,
     }
 }
 
@@ -169,6 +170,7 @@ fn main() {
     let mut space = [0u8; SIZE];
     let mut at: usize = 0;
     let mut buffer = [0u8; LONGEST];
+    examples::answer(&mut space, &mut at, &mut buffer);
     batch(&mut space, &mut at, &mut buffer);
     out::flush(&space, &mut at);
 }

@@ -1,6 +1,5 @@
 // Standard output by way of a buffer. Each function takes the buffer and the place in it up to which it is filled.
 use libc::STDOUT_FILENO;
-use primitive::Endianness;
 
 pub const SIZE: usize = 65536;
 
@@ -20,7 +19,7 @@ pub fn flush(space: &[u8; SIZE], at: &mut usize) {
     }
 }
 
-fn byte(space: &mut [u8; SIZE], at: &mut usize, b: u8) {
+pub fn byte(space: &mut [u8; SIZE], at: &mut usize, b: u8) {
     if *at == SIZE {
         flush(space, at);
     }
@@ -39,38 +38,20 @@ pub fn text(space: &mut [u8; SIZE], at: &mut usize, s: &[u8]) {
     }
 }
 
-// A label and a number, in decimal.
-pub fn number(space: &mut [u8; SIZE], at: &mut usize, label: &[u8], n: u64) {
+fn decimal(space: &mut [u8; SIZE], at: &mut usize, n: u64) {
     let mut digits = [0u8; 20];
     let k = io::decimal(n, &mut digits);
-    text(space, at, label);
     text(space, at, &digits[..k]);
 }
 
-// A space and a number.
-pub fn word(space: &mut [u8; SIZE], at: &mut usize, n: u64) {
-    number(space, at, b" ", n);
-}
-
-pub fn end(space: &mut [u8; SIZE], at: &mut usize) {
-    text(space, at, b"\n");
-}
-
-pub fn order_word(space: &mut [u8; SIZE], at: &mut usize, order: Endianness) {
-    match order {
-        Endianness::Little => text(space, at, b" little"),
-        Endianness::Big => text(space, at, b" big"),
-    }
-}
-
 // At least so many hex digits.
-pub fn hex(space: &mut [u8; SIZE], at: &mut usize, n: u64, width: usize) {
+fn hex(space: &mut [u8; SIZE], at: &mut usize, n: u64, width: usize) {
     let mut digits = [0u8; 16];
     let k = io::hex(n, width, &mut digits);
     text(space, at, &digits[..k]);
 }
 
-fn wide(b: u8) -> u64 {
+pub fn wide(b: u8) -> u64 {
     b as u64
 }
 
@@ -79,6 +60,72 @@ pub fn bytes(space: &mut [u8; SIZE], at: &mut usize, s: &[u8]) {
     let mut i = 0;
     while i < s.len() {
         hex(space, at, wide(s[i]), 2);
+        i += 1;
+    }
+}
+
+// The words that stand in answers for these numbers.
+pub const LEGACY: u64 = 0;
+
+pub const NEW: u64 = 1;
+
+pub const LITTLE: u64 = 2;
+
+pub const BIG: u64 = 3;
+
+fn word(space: &mut [u8; SIZE], at: &mut usize, n: u64) {
+    match n {
+        LEGACY => text(space, at, b"legacy"),
+        NEW => text(space, at, b"new"),
+        LITTLE => text(space, at, b"little"),
+        _ => text(space, at, b"big"),
+    }
+}
+
+// Whether a byte of a form stands for a number, and that number as the byte asks: `#` is decimal, `~` a word, and `$`, `@` and `%` are at least 2, 8
+// and 16 hex digits; `^` leaves a number out.
+fn is_place(form: u8) -> bool {
+    match form {
+        b'#' | b'~' | b'$' | b'@' | b'%' | b'^' => true,
+        _ => false,
+    }
+}
+
+pub fn number(space: &mut [u8; SIZE], at: &mut usize, form: u8, n: u64) {
+    match form {
+        b'#' => decimal(space, at, n),
+        b'~' => word(space, at, n),
+        b'$' => hex(space, at, n, 2),
+        b'@' => hex(space, at, n, 8),
+        b'%' => hex(space, at, n, 16),
+        _ => {}
+    }
+}
+
+// A form, with the numbers in their places.
+pub fn line(space: &mut [u8; SIZE], at: &mut usize, form: &[u8], numbers: &[u64]) {
+    let mut i = 0;
+    let mut k = 0;
+    while i < form.len() {
+        let b = form[i];
+        if is_place(b) {
+            if k < numbers.len() {
+                number(space, at, b, numbers[k]);
+                k += 1;
+            }
+        } else {
+            byte(space, at, b);
+        }
+        i += 1;
+    }
+}
+
+// A space and a number, for each.
+pub fn words(space: &mut [u8; SIZE], at: &mut usize, numbers: &[u64]) {
+    let mut i = 0;
+    while i < numbers.len() {
+        byte(space, at, b' ');
+        decimal(space, at, numbers[i]);
         i += 1;
     }
 }

@@ -1,6 +1,6 @@
 -- `blend_catalogue`: what `dna` answers, and what it leaves in its tables.
-use mathlib.Core.Path.{sym, _∙_, ap}
-use Rattle.exports.specs.Exports.{catalogueOut, Catalogued}
+use mathlib.Core.Path.{_∙_, ap}
+use Rattle.exports.specs.Exports.{catalogueOut}
 use borrow.Author.Needs.{needs}
 use Rattle.exports.proofs.blend_catalogue.Statement.{statement}
 use Rattle.exports.proofs.blend_catalogue.Tie as tie
@@ -27,7 +27,11 @@ same-length-4 : tie.Need-same-length-4
 same-length-4 c = search needs
 
 returns : tie.Need-returns
-returns c = let f = rw (c .before .before .before .before .before .before .before .before .before .before .before .before .before .before .order-of .ensures) at (c .before .before .before .before .before .before .before .before .before .dna .ensures) in record { answer = c .catalogue-out .ensures ∙ ap catalogueOut (f .answer); in-names = f .in-names; in-types = f .in-types; in-structs = f .in-structs; in-fields = f .in-fields }
+returns c =
+    let c4 = c .before .before .before .before in
+    let c8 = c4 .before .before .before .before in
+    let c12 = c8 .before .before .before .before in
+    let f = rw (c12 .before .before .order-of .ensures) at (c8 .before .dna .ensures) in record { answer = c .catalogue-out .ensures ∙ ap catalogueOut (f .answer); in-names = f .in-names; in-types = f .in-types; in-structs = f .in-structs; in-fields = f .in-fields }
 
 pub blend-catalogue-spec : {M : Type 1} → statement M
 blend-catalogue-spec =

@@ -1,6 +1,6 @@
 -- `blend_header`: the header and its length, or refusal 1 or 2.
 use mathlib.Core.Path.{sym, _∙_, ap}
-use Rattle.blend.specs.Header.{paperHeader}
+use Rattle.header.specs.Header.{paperHeader}
 use Rattle.exports.specs.Exports.{headerOut}
 use borrow.Author.Needs.{needs}
 use Rattle.exports.proofs.blend_header.Statement.{statement}
@@ -31,7 +31,10 @@ enum-known-n : tie.Need-enum-known-n
 enum-known-n c = search needs
 
 returns : tie.Need-returns
-returns c = rw (c .before .before .order .ensures, c .before .before .before .bytes-num .ensures .0, c .before .before .before .before .edition .ensures) (ap headerOut (ap paperHeader (sym (c .before .before .before .before .before .before .before .h .given .1)) ∙ c .before .before .before .before .before .before .before .before .before .header .ensures))
+returns c =
+    let c4 = c .before .before .before .before in
+    let c8 = c4 .before .before .before .before in
+    rw (c .before .before .order .ensures, c .before .before .before .bytes-num .ensures .0, c4 .edition .ensures) (ap headerOut (ap paperHeader (sym (c4 .before .before .before .h .given .1)) ∙ c8 .before .header .ensures))
 
 returns-2 : tie.Need-returns-2
 returns-2 c = ap headerOut (ap paperHeader (sym (c .before .n .given .1)) ∙ c .before .before .before .header .ensures)

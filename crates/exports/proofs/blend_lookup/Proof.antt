@@ -18,8 +18,8 @@ enum-known-row c = search needs
 enum-told-2 : tie.Need-enum-told-2
 enum-told-2 c = search needs
 
-enum-told-3 : tie.Need-enum-told-3
-enum-told-3 c = search needs
+enum-known-n : tie.Need-enum-known-n
+enum-known-n c = search needs
 
 returns : tie.Need-returns
 returns c = ap pointerOut (ap paperPointer (sym (c .enum-told .given .1)) ∙ c .before .before .get-ptr .ensures)
@@ -31,7 +31,7 @@ returns-3 : tie.Need-returns-3
 returns-3 c = ap pointerOut (ap paperPointer (sym (c .enum-told2 .given .1)) ∙ c .before .before .get-ptr .ensures)
 
 returns-4 : tie.Need-returns-4
-returns-4 c = ap pointerOut (ap paperPointer (sym (c .enum-told3 .given .1)) ∙ c .before .before .get-ptr .ensures)
+returns-4 c = ap pointerOut (ap paperPointer (sym (c .before .n .given .1)) ∙ c .before .before .before .get-ptr .ensures)
 
 pub blend-lookup-spec : {M : Type 1} → statement M
 blend-lookup-spec =
@@ -41,7 +41,7 @@ blend-lookup-spec =
     enum-told
     enum-known-row
     enum-told-2
-    enum-told-3
+    enum-known-n
     returns
     returns-2
     returns-3

@@ -31,19 +31,25 @@ same-length : tie.Need-same-length
 same-length c = search needs
 
 returns : tie.Need-returns
-returns c = (c .read-out .ensures ∙ ap readOut (ap paperBlend (sym (c .before .before .b .given .1)) ∙ c .before .before .before .before .before .before .blend .ensures .0), c .before .before .before .before .before .before .blend .ensures .1)
+returns c =
+    let c4 = c .before .before .before .before in
+    (c .read-out .ensures ∙ ap readOut (ap paperBlend (sym (c .before .before .b .given .1)) ∙ c4 .before .before .blend .ensures .0), c4 .before .before .blend .ensures .1)
 
 same-length-2 : tie.Need-same-length-2
 same-length-2 c = search needs
 
 returns-2 : tie.Need-returns-2
-returns-2 c = (c .read-refused .ensures ∙ ap readOut (ap paperBlend (sym (c .before .before .n .given .1)) ∙ c .before .before .before .before .before .before .blend .ensures .0), c .before .before .before .before .before .before .blend .ensures .1)
+returns-2 c =
+    let c4 = c .before .before .before .before in
+    (c .read-refused .ensures ∙ ap readOut (ap paperBlend (sym (c .before .before .n .given .1)) ∙ c4 .before .before .blend .ensures .0), c4 .before .before .blend .ensures .1)
 
 same-length-3 : tie.Need-same-length-3
 same-length-3 c = search needs
 
 returns-3 : tie.Need-returns-3
-returns-3 c = (c .read-refused2 .ensures ∙ ap readOut (ap paperBlend (sym (c .before .before .rows .given .1)) ∙ c .before .before .before .before .before .before .blend .ensures .0), c .before .before .before .before .before .before .blend .ensures .1)
+returns-3 c =
+    let c4 = c .before .before .before .before in
+    (c .read-refused2 .ensures ∙ ap readOut (ap paperBlend (sym (c .before .before .rows .given .1)) ∙ c4 .before .before .blend .ensures .0), c4 .before .before .blend .ensures .1)
 
 pub blend-read-spec : {M : Type 1} → statement M
 blend-read-spec =

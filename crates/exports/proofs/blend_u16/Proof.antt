@@ -15,17 +15,17 @@ parse-u16-requires c κs = search needs
 enum-known-n : tie.Need-enum-known-n
 enum-known-n c = search needs
 
-cast-t7 : tie.Need-cast-t7
-cast-t7 c = search needs
+cast-t8 : tie.Need-cast-t8
+cast-t8 c = search needs
 
-enum-told : tie.Need-enum-told
-enum-told c = search needs
+enum-known-n-2 : tie.Need-enum-known-n-2
+enum-known-n-2 c = search needs
 
 returns : tie.Need-returns
 returns c = ap valueOut (ap paperU16 (sym (c .before .n .given .1)) ∙ (rw (c .before .before .before .before .order-of .ensures) at (c .before .before .before .parse-u16 .ensures)))
 
 returns-2 : tie.Need-returns-2
-returns-2 c = ap valueOut (ap paperU16 (sym (c .enum-told .given .1)) ∙ (rw (c .before .before .before .order-of .ensures) at (c .before .before .parse-u16 .ensures)))
+returns-2 c = ap valueOut (ap paperU16 (sym (c .before .n2 .given .1)) ∙ (rw (c .before .before .before .before .order-of .ensures) at (c .before .before .before .parse-u16 .ensures)))
 
 pub blend-u16-spec : {M : Type 1} → statement M
 blend-u16-spec =
@@ -34,7 +34,7 @@ blend-u16-spec =
     order-of-requires
     parse-u16-requires
     enum-known-n
-    cast-t7
-    enum-told
+    cast-t8
+    enum-known-n-2
     returns
     returns-2)

@@ -18,14 +18,18 @@ width-requires c κs = search needs
 enum-known-n : tie.Need-enum-known-n
 enum-known-n c = search needs
 
-enum-told : tie.Need-enum-told
-enum-told c = search needs
+enum-known-n-2 : tie.Need-enum-known-n-2
+enum-known-n-2 c = search needs
 
 returns : tie.Need-returns
-returns c = ap valueOut (ap paperWidth (sym (c .before .n .given .1)) ∙ (rw (c .before .before .before .before .size-of .ensures, c .before .before .before .before .before .kind-of .ensures) at (c .before .before .before .width .ensures)))
+returns c =
+    let c4 = c .before .before .before .before in
+    ap valueOut (ap paperWidth (sym (c .before .n .given .1)) ∙ (rw (c4 .size-of .ensures, c4 .before .kind-of .ensures) at (c .before .before .before .width .ensures)))
 
 returns-2 : tie.Need-returns-2
-returns-2 c = ap valueOut (ap paperWidth (sym (c .enum-told .given .1)) ∙ (rw (c .before .before .before .size-of .ensures, c .before .before .before .before .kind-of .ensures) at (c .before .before .width .ensures)))
+returns-2 c =
+    let c4 = c .before .before .before .before in
+    ap valueOut (ap paperWidth (sym (c .before .n2 .given .1)) ∙ (rw (c4 .size-of .ensures, c4 .before .kind-of .ensures) at (c .before .before .before .width .ensures)))
 
 pub blend-width-spec : {M : Type 1} → statement M
 blend-width-spec =
@@ -35,6 +39,6 @@ blend-width-spec =
     size-of-requires
     width-requires
     enum-known-n
-    enum-told
+    enum-known-n-2
     returns
     returns-2)

@@ -9,14 +9,14 @@ use Rattle.exports.proofs.catalogue_out.Tie as tie
 enum-known-answer : tie.Need-enum-known-answer
 enum-known-answer c = search needs
 
-enum-told : tie.Need-enum-told
-enum-told c = search needs
+enum-known-answer-2 : tie.Need-enum-known-answer-2
+enum-known-answer-2 c = search needs
 
 catalogue-refused-requires : tie.Need-catalogue-refused-requires
 catalogue-refused-requires c κs = search needs
 
-enum-known-answer-2 : tie.Need-enum-known-answer-2
-enum-known-answer-2 c = search needs
+enum-known-answer-3 : tie.Need-enum-known-answer-3
+enum-known-answer-3 c = search needs
 
 catalogue-refused-requires-2 : tie.Need-catalogue-refused-requires-2
 catalogue-refused-requires-2 c κs = search needs
@@ -25,19 +25,19 @@ returns : tie.Need-returns
 returns c = ap (λ a. catalogueOut (paperTables a)) (sym (c .before .answer .given .1))
 
 returns-2 : tie.Need-returns-2
-returns-2 c = c .catalogue-refused .ensures ∙ ap (λ a. catalogueOut (paperTables a)) (sym (c .before .enum-told .given .1))
+returns-2 c = c .catalogue-refused .ensures ∙ ap (λ a. catalogueOut (paperTables a)) (sym (c .before .before .answer2 .given .1))
 
 returns-3 : tie.Need-returns-3
-returns-3 c = c .catalogue-refused2 .ensures ∙ ap (λ a. catalogueOut (paperTables a)) (sym (c .before .before .answer2 .given .1))
+returns-3 c = c .catalogue-refused2 .ensures ∙ ap (λ a. catalogueOut (paperTables a)) (sym (c .before .before .answer3 .given .1))
 
 pub catalogue-out-spec : {M : Type 1} → statement M
 catalogue-out-spec =
     tie.close
     (tie.spec
     enum-known-answer
-    enum-told
-    catalogue-refused-requires
     enum-known-answer-2
+    catalogue-refused-requires
+    enum-known-answer-3
     catalogue-refused-requires-2
     returns
     returns-2

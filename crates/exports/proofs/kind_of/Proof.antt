@@ -1,7 +1,7 @@
 -- `kind_of`: the kinds by their numbers, one test after another.
 use mathlib.Core.Path.{sym, _∙_}
 use borrow.Author.Tests.{eq-eqb, ne-eqb}
-use Rattle.primitive.proofs.Tests.{held, failed}
+use Rattle.bytes.proofs.Tests.{held, failed}
 use Rattle.exports.proofs.kind_of.Statement.{statement}
 use Rattle.exports.proofs.kind_of.Tie as tie
 

@@ -1,7 +1,7 @@
 -- `order_of`: 0 is little, any other number big.
 use mathlib.Core.Path.{sym}
 use borrow.Author.Tests.{eq-eqb, ne-eqb}
-use Rattle.primitive.proofs.Tests.{held, failed}
+use Rattle.bytes.proofs.Tests.{held, failed}
 use Rattle.exports.proofs.order_of.Statement.{statement}
 use Rattle.exports.proofs.order_of.Tie as tie
 

@@ -1,7 +1,7 @@
 -- `size_of`: 4 bytes, any other number 8.
 use mathlib.Core.Path.{sym}
 use borrow.Author.Tests.{eq-eqb, ne-eqb}
-use Rattle.primitive.proofs.Tests.{held, failed}
+use Rattle.bytes.proofs.Tests.{held, failed}
 use Rattle.exports.proofs.size_of.Statement.{statement}
 use Rattle.exports.proofs.size_of.Tie as tie
 

@@ -2,7 +2,7 @@
 use Rattle.held.proofs.Walk.{_≡_, refl, sym, subst, ℕ, _<_, _^_, List, [], _∷_, Holds, lit<, length, URA, fullShare, Ty, named, erased, imm, w64, tyArray, tyRef, Val, WT, hasTy, vint, SProp, ent, sep, emp, via, fst∗, snd∗, exE, id⊢, GName, Fml, fsep, ftrue, flft, flent, fat, froom, Memory, Routine, Heap, Calls, Loops, WpFn, Tables, Atoms, sem, Fun, fact, givenOf, tables, tablesOf, Given, ‵, raw, _⊛_, some, later, _$_, _∵_, !, qed, by, move, keep, drop, use1, use2, split, join, pick, rewrite, fsplit, fjoin, fpick, fpack, feqL, feqI, suffices, frame, await, done, agg, look, init, forget, stop, from, load, lit, addr, of-opd, and-then, no-more, assigns, land, returns, enter, alloc1, alloc0, params1, pass1, pass0, free1, free0, arr-parts, lft-new, lft-end, lent-back, FmC, fmOf, WpFn-mono, RattleType, owns, Is, shows, Array, array-vals, array-tells, array-lawful, array-makes, array-apart, array-whole, rawAll, cellAt, partOf, pointee, shares, lends-shr-slice, uint-vals, uint-tells, uint-makes, u64, usize, RefT, sliceTy, sliceVal, ShrSlice, Room, only, owned, facts, heard, nothing, spelt, Contract, Triple, calls-at, ensured, lasts, Vals, onEntry, Meets, tripleOf, entered, cited, says, Stays, stay-none, walkOf, goes-none, Walks, ends-at, walked, walk-meets, yes}
 use denote.Struct.Laws as LL
 use denote.Enum.Laws as EL
-use Rattle.primitive.specs.Paper.{Paper}
+use Rattle.bytes.specs.Paper.{Paper}
 use Rattle.runtime.specs.Addresses.{paperPointer}
 use Rattle.held.specs.Held.{lookupRows}
 use Rattle.blend.specs.declared.Row.{Row}

@@ -3,13 +3,14 @@
 use Rattle.held.proofs.Walk.{_≡_, refl, sym, ap, _∙_, ℕ, _+_, _*_, _-_, _≤_, _<_, _^_, zero-le, add-one-le, add-one-dec, arith, Bool, List, [], _∷_, WellFounded, InvImage·wf, Nat·lt-wfRel, Holds, ltb, eqb, ltb→lt, nltb→le, lit<, length, getD, URA, fullShare, Ty, named, imm, w64, tyInt, tyBool, tyPtr, tyRef, Val, WT, hasTy, vint, vbool, vptr, SProp, ent, emp, via, fst∗, snd∗, exE, id⊢, Lft, GName, Share, Fml, ftrue, flft, fat, froom, fdies, Memory, Routine, Heap, Out, Env, Calls, Loops, Wp, WpFn, Tables, afterSeq, afterBlock, afterTurn, atReturn, Atoms, sem, Fun, fact, givenOf, tables, tablesOf, Given, Item, Sq, runs, frees, prop, anyQ, atRet, ‵, raw, _⊛_, ⋆, some, later, _$_, _∵_, !, qed, by, move, keep, drop, use0, use1, split, join, pick, rewrite, fsplit, fjoin, suffices, frame, await, done, whole, sub, look-in, agg, look, look-raw, store, init, forget, stop, hop, fld, from, load, lit, of-opd, bin, and-then, no-more, assigns, assigns-last, land, first, skips, jumps, blocks, branches, returns, returns-within, exec, enter, alloc1, alloc0, params1, pass1, pass0, free1, free0, Below, again, loops, fmOf, WpFn-mono, owns, Is, shows, pointee, uint-vals, uint-tells, uint-makes, bool-tells, bool-lawful, bool, u64, usize, place-is, elem-out, elem-back, looks-slice, shuts-slice, RefT, now, plain, sliceTy, sliceVal, ShrSlice, Room, slice-vals, shr-slice-tells, shr-slice-copy, only, owned, facts, heard, nothing, Contract, Triple, calls-at, ensured, lasts, Vals, onEntry, Meets, tripleOf, entered, cited, says, Stays, stay-none, stay-none-slice, walkOf, goes-none, goes-none-slice, Walks, ends-at, walked, walk-meets, yes}
 use denote.Struct.Laws as LL
 use denote.Enum.Laws as EL
-use Rattle.primitive.specs.Paper.{Paper}
-use Rattle.primitive.specs.Refusals.{notThere}
+use Rattle.bytes.specs.Paper.{Paper}
+use Rattle.bytes.specs.Refusals.{notThere}
 use Rattle.runtime.specs.Addresses.{seek, null, paperPointer}
-use Rattle.held.specs.Held.{none, rowIs, lookupRows}
+use Rattle.blend.specs.Rows.{none}
+use Rattle.held.specs.Held.{rowIs, lookupRows}
 use Rattle.blend.specs.declared.Row.{Row}
 use Rattle.runtime.specs.declared.runtime.Pointer.{Pointer}
-use Rattle.held.proofs.Past.{past}
+use Rattle.held.proofs.Past.{afterSteps}
 use Rattle.held.proofs.Seek as law
 use Rattle.blend.proofs.Row as R
 use Rattle.blend.proofs.Row.Laws as R′
@@ -145,7 +146,7 @@ module _ {M : Type 1} (𝓤 : URA M) (H : Heap 𝓤) (A : Atoms 𝓤) (W : Given
           returns ! (look ! 0 refl) $ forget ! 8 refl $ leaves Pointer.Missing _ (EL.owes S.the-type S′.the-laws Pointer.Missing tt) (law.over test n (i .0) over (i .1 .1))
 
       -- a turn that reads a row: it is found, or i goes on
-      reads : (i : Upto) → i .0 < n → Sq W (Turn i) (runs C Λ En (past 2 mir.turn-1) (anyQ (Turned i)))
+      reads : (i : Upto) → i .0 < n → Sq W (Turn i) (runs C Λ En (afterSteps 2 mir.turn-1) (anyQ (Turned i)))
       unfolding afterTurn
       reads i less =
           assigns ! (bin ! (load ! (from ! (stop !)) (look ! 8 refl)) (lit ! tt) (record { fits = bytes })) (from ! (stop !)) (init ! 18 refl (tt, record { fits = bytes })) $
@@ -168,7 +169,7 @@ module _ {M : Type 1} (𝓤 : URA M) (H : Heap 𝓤) (A : Atoms 𝓤) (W : Given
           first ! $ branches ! (load ! (from ! (stop !)) (look ! 16 refl))
           (λ hit. assigns ! (agg ! (and-then ! (lit ! tt) (and-then ! (load ! (from ! (stop !)) (look ! 8 refl)) (no-more !)))) (from ! (stop !)) (init ! 0 refl (typed (Pointer.Block (i .0)) _ made)) $
           returns-within ! Post refl (look ! 0 refl) $ forget ! 8 refl $ forget ! 16 refl $ forget ! 18 refl $ forget ! 20 refl $ forget ! 22 refl $ leaves (Pointer.Block (i .0)) _ made (law.hit test n (i .0) less (law.holds (test (i .0)) hit) (i .1 .1)))
-          (λ miss. skips ! $ exec ! C Λ En (past 7 mir.turn-1) (anyQ (Turned i)) $
+          (λ miss. skips ! $ exec ! C Λ En (afterSteps 7 mir.turn-1) (anyQ (Turned i)) $
           assigns-last ! (bin ! (load ! (from ! (stop !)) (look ! 8 refl)) (lit ! tt) (record { fits = next })) (from ! (stop !)) (store ! 8 refl (tt, record { fits = next })) $
           forget ! 16 refl $ forget ! 18 refl $ forget ! 20 refl $ forget ! 22 refl $ again ! Nearer Turn i (i .0 + 1, (add-one-le less, law.miss test n (i .0) less (law.fails (test (i .0)) miss) (i .1 .1))) (add-one-dec n (i .0) less))))))))
         where
@@ -190,8 +191,11 @@ module _ {M : Type 1} (𝓤 : URA M) (H : Heap 𝓤) (A : Atoms 𝓤) (W : Given
       turns i =
           assigns ! (bin ! (load ! (from ! (stop !)) (look ! 8 refl)) (load ! (from ! (stop !)) (look ! 4 refl)) tt) (from ! (stop !)) (init ! 14 refl (tt, tt)) $
           first ! $ branches ! (load ! (from ! (stop !)) (look ! 14 refl))
-          (λ less. skips ! $ exec ! C Λ En (past 2 mir.turn-1) (anyQ (Turned i)) $ forget ! 14 refl $ reads i (ltb→lt (i .0) n less))
+          (λ less. skips ! $ exec ! C Λ En (afterSteps 2 mir.turn-1) (anyQ (Turned i)) $ forget ! 14 refl $ reads i (ltb→lt (i .0) n less))
           (λ over. jumps ! $ exec ! C Λ En mir.t-8 (atRet En Post) $ forget ! 14 refl $ ends i (nltb→le (i .0) n over))
+
+    refused : Is S.the-row (Pointer.Refused 13) (S′.lowered (Pointer.Refused 13) ∷ [])
+    refused = EL.owes S.the-type S′.the-laws (Pointer.Refused 13) ((refl, omega arith), tt)
 
     -- the tests before the loop, and the loop
     begins : Sq W (With (room S′.mir l₀) (room word l₄)) (runs C Λ En mir.t-1 (atRet En Post))
@@ -199,8 +203,8 @@ module _ {M : Type 1} (𝓤 : URA M) (H : Heap 𝓤) (A : Atoms 𝓤) (W : Given
         assigns ! (of-opd ! (load ! (from ! (fld ! refl (stop !))) (look-in ! 2 (sub ! 1 refl (whole !))))) (from ! (stop !)) (init ! 10 refl (tt, record { fits = g .0 })) $
         assigns ! (bin ! (load ! (from ! (stop !)) (look ! 10 refl)) (load ! (from ! (stop !)) (look ! 4 refl)) tt) (from ! (stop !)) (init ! 12 refl (tt, tt)) $
         first ! $ branches ! (load ! (from ! (stop !)) (look ! 12 refl))
-        (λ long. assigns ! (agg ! (and-then ! (lit ! tt) (no-more !))) (from ! (stop !)) (init ! 0 refl (typed Pointer.NotThere _ (EL.owes S.the-type S′.the-laws Pointer.NotThere tt))) $
-        returns-within ! Post refl (look ! 0 refl) $ forget ! 10 refl $ forget ! 12 refl $ leaves Pointer.NotThere _ (EL.owes S.the-type S′.the-laws Pointer.NotThere tt) (law.yes _ _ (law.holds (ltb (length ys) n) long)))
+        (λ long. assigns ! (agg ! (and-then ! (lit ! tt) (and-then ! (lit ! tt) (no-more !)))) (from ! (stop !)) (init ! 0 refl (typed (Pointer.Refused 13) _ refused)) $
+        returns-within ! Post refl (look ! 0 refl) $ forget ! 10 refl $ forget ! 12 refl $ leaves (Pointer.Refused 13) _ refused (law.yes _ _ (law.holds (ltb (length ys) n) long)))
         (λ fit. skips ! $ exec ! C Λ En mir.t-4 (atRet En Post) $ forget ! 10 refl $
         assigns ! (bin ! (load ! (from ! (stop !)) (look ! 6 refl)) (lit ! tt) tt) (from ! (stop !)) (store ! 12 refl (tt, tt)) $
         first ! $ branches ! (load ! (from ! (stop !)) (look ! 12 refl))

@@ -3,10 +3,10 @@
 -- Assumes nothing.
 use Rattle.held.proofs.Walk.{refl, [], _∷_, Holds, URA, named, Val, WT, hasTy, SProp, ent, emp, via, fst∗, Lft, Share, Fml, ftrue, flft, Memory, Routine, Heap, Calls, Loops, WpFn, Tables, Atoms, Lfts, Fun, givenOf, tables, tablesOf, Given, ‵, _⊛_, _$_, _∵_, !, qed, by, move, use1, split, fsplit, fjoin, suffices, frame, whole, sub, look-in, agg, look, init, forget, stop, fld, from, load, of-opd, and-then, no-more, assigns, returns, enter, alloc1, alloc0, params1, pass1, pass0, free1, free0, WpFn-mono, RattleType, owns, Is, namedLft, owned, own-put, Vals, onEntry, Meets, tripleOf, entered, says, Stays, stay-none, walkOf, goes-none, Walks, ends-at, walked, walk-meets, yes}
 use denote.Struct.Laws as LL
-use Rattle.blend.specs.declared.walker.Place.{Place}
+use Rattle.walker.specs.declared.Place.{Place}
 use Rattle.held.specs.declared.Walker.{Walker}
-use Rattle.blend.proofs.walker.Place as P
-use Rattle.blend.proofs.walker.Place.Laws as P′
+use Rattle.walker.proofs.Place as P
+use Rattle.walker.proofs.Place.Laws as P′
 use Rattle.held.proofs.Walker as T
 use Rattle.held.proofs.Walker.Laws as T′
 use Rattle.held.proofs.moved.Key.{name as #held·moved}

@@ -6,13 +6,13 @@ use denote.Enum.Laws as EL
 use denote.Struct.Laws as LL
 use Rattle.held.specs.Calls.{«step_at»}
 use Rattle.held.specs.declared.Walker.{Walker}
-use Rattle.blend.specs.declared.walker.Step.{Step}
+use Rattle.walker.specs.declared.Step.{Step}
 use Rattle.held.proofs.Walker as T
 use Rattle.held.proofs.Walker.Laws as T′
-use Rattle.blend.proofs.walker.Place as P
-use Rattle.blend.proofs.walker.Place.Laws as P′
-use Rattle.blend.proofs.walker.Step as S
-use Rattle.blend.proofs.walker.Step.Laws as S′
+use Rattle.walker.proofs.Place as P
+use Rattle.walker.proofs.Place.Laws as P′
+use Rattle.walker.proofs.Step as S
+use Rattle.walker.proofs.Step.Laws as S′
 use Rattle.held.proofs.step_at.Symbol.{name as #held·step-at}
 use Rattle.held.proofs.step_at as step
 use Rattle.held.proofs.step_at.Symbol as step-def

@@ -3,10 +3,10 @@
 -- Assumes nothing.
 use Rattle.held.proofs.Walk.{refl, ℕ, List, [], _∷_, lit<, length, URA, named, Val, SProp, ent, emp, via, fst∗, Lft, Share, Fml, ftrue, flft, Memory, Routine, Heap, Calls, Loops, WpFn, Tables, Atoms, Fun, givenOf, tables, tablesOf, Given, ‵, raw, _⊛_, _$_, _∵_, !, qed, by, move, use1, split, fsplit, fjoin, suffices, frame, agg, look, init, forget, stop, from, load, lit, false-lit, and-then, no-more, assigns, returns, enter, alloc1, alloc0, params1, pass1, pass0, free1, free0, WpFn-mono, owns, Is, u8, RefT, NamedLft, plain, namedLft, sliceVal, ShrSlice, slice-vals, shr-slice-tells, shr-slice-lawful, shr-slice-copy, nothing, owned, own-shut, onEntry, Meets, tripleOf, entered, says, Stays, stay-none-slice, walkOf, goes-none-slice, Walks, ends-at, walked, walk-meets, yes}
 use denote.Struct.Laws as LL
-use Rattle.blend.specs.Walker.{start}
+use Rattle.walker.specs.Walker.{start}
 use Rattle.held.specs.declared.Walker.{Walker}
-use Rattle.blend.proofs.walker.Place as P
-use Rattle.blend.proofs.walker.Place.Laws as P′
+use Rattle.walker.proofs.Place as P
+use Rattle.walker.proofs.Place.Laws as P′
 use Rattle.held.proofs.Walker as T
 use Rattle.held.proofs.Walker.Laws as T′
 use Rattle.held.proofs.over.Key.{name as #held·over}

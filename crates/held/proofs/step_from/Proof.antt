@@ -3,17 +3,17 @@
 use Rattle.held.proofs.Walk.{_≡_, refl, subst, _∙_, ℕ, List, [], _∷_, length, URA, named, erased, Val, SProp, ent, sep, emp, via, fst∗, snd∗, exE, id⊢, Lft, Share, Fml, ftrue, flft, Memory, Routine, Heap, Calls, Loops, WpFn, Tables, Atoms, sem, Lfts, Fun, fact, givenOf, tables, tablesOf, Given, ‵, raw, _⊛_, ⋆, some, later, _$_, _∵_, !, qed, by, move, drop, use1, use2, split, join, pick, fsplit, fjoin, suffices, frame, await, done, look, init, forget, stop, from, load, and-then, no-more, land, returns, enter, alloc1, alloc0, params1, pass1, pass0, free1, free0, FmC, fmOf, WpFn-mono, RattleType, owns, Is, shows, u8, RefT, NamedLft, now, plain, namedLft, sliceVal, ShrSlice, slice-vals, shr-slice-tells, shr-slice-lawful, shr-slice-copy, peeks, heard, nothing, owned, Contract, Triple, calls-at, Vals, onEntry, Meets, tripleOf, entered, cited, says, Stays, stay-none, stay-none-slice, walkOf, goes-none, goes-none-slice, Walks, ends-at, walked, walk-meets, yes, ensured, lasts}
 use denote.Enum.Laws as EL
 use denote.Struct.Laws as LL
-use Rattle.blend.specs.Walker.{start}
-use Rattle.blend.specs.declared.walker.Place.{Place}
-use Rattle.blend.specs.declared.walker.Step.{Step}
+use Rattle.walker.specs.Walker.{start}
+use Rattle.walker.specs.declared.Place.{Place}
+use Rattle.walker.specs.declared.Step.{Step}
 use Rattle.held.specs.Calls.{«step_at»}
 use Rattle.held.specs.declared.Walker.{Walker}
 use Rattle.held.proofs.Walker as T
 use Rattle.held.proofs.Walker.Laws as T′
-use Rattle.blend.proofs.walker.Place as P
-use Rattle.blend.proofs.walker.Place.Laws as P′
-use Rattle.blend.proofs.walker.Step as S
-use Rattle.blend.proofs.walker.Step.Laws as S′
+use Rattle.walker.proofs.Place as P
+use Rattle.walker.proofs.Place.Laws as P′
+use Rattle.walker.proofs.Step as S
+use Rattle.walker.proofs.Step.Laws as S′
 use Rattle.held.proofs.over.Symbol.{name as #held·over}
 use Rattle.held.proofs.over as over
 use Rattle.held.proofs.over.Symbol as over-def

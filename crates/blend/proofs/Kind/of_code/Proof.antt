@@ -1,7 +1,7 @@
 -- `of_code`: the tests in the rule's order.
 use mathlib.Core.Path.{sym, _∙_, ap}
 use borrow.Author.Tests.{eq-eqb, ne-eqb}
-use Rattle.primitive.proofs.Tests.{held, failed}
+use Rattle.bytes.proofs.Tests.{held, failed}
 use Rattle.blend.specs.Blocks.{kindOf, paperKind}
 use Rattle.blend.proofs.Codes.{large, even, odd}
 use Rattle.blend.proofs.Kind.of_code.Statement.{statement}
@@ -29,15 +29,21 @@ returns-5 c = ap paperKind (sym (failed _ _ (ne-eqb _ _ (c .before .before .befo
 
 returns-6 : tie.Need-returns-6
 unfolding kindOf
-returns-6 c = ap paperKind (sym (failed _ _ (ne-eqb _ _ (c .before .before .before .before .before .if1 .left)) ∙ failed _ _ (ne-eqb _ _ (c .before .before .before .before .if2 .left)) ∙ failed _ _ (ne-eqb _ _ (c .before .before .before .if3 .left)) ∙ failed _ _ (ne-eqb _ _ (c .before .before .if4 .left)) ∙ failed _ _ (ne-eqb _ _ (c .before .if5 .left)) ∙ failed _ _ (large (c .before .before .before .before .before .before .args .code) (c .if6 .taken))))
+returns-6 c =
+    let c4 = c .before .before .before .before in
+    ap paperKind (sym (failed _ _ (ne-eqb _ _ (c4 .before .if1 .left)) ∙ failed _ _ (ne-eqb _ _ (c4 .if2 .left)) ∙ failed _ _ (ne-eqb _ _ (c .before .before .before .if3 .left)) ∙ failed _ _ (ne-eqb _ _ (c .before .before .if4 .left)) ∙ failed _ _ (ne-eqb _ _ (c .before .if5 .left)) ∙ failed _ _ (large (c4 .before .before .args .code) (c .if6 .taken))))
 
 returns-7 : tie.Need-returns-7
 unfolding kindOf
-returns-7 c = ap paperKind (sym (failed _ _ (ne-eqb _ _ (c .before .before .before .before .before .before .if1 .left)) ∙ failed _ _ (ne-eqb _ _ (c .before .before .before .before .before .if2 .left)) ∙ failed _ _ (ne-eqb _ _ (c .before .before .before .before .if3 .left)) ∙ failed _ _ (ne-eqb _ _ (c .before .before .before .if4 .left)) ∙ failed _ _ (ne-eqb _ _ (c .before .before .if5 .left)) ∙ held _ _ (even (c .before .before .before .before .before .before .before .args .code) (c .before .if6 .left) (c .if7 .taken))))
+returns-7 c =
+    let c4 = c .before .before .before .before in
+    ap paperKind (sym (failed _ _ (ne-eqb _ _ (c4 .before .before .if1 .left)) ∙ failed _ _ (ne-eqb _ _ (c4 .before .if2 .left)) ∙ failed _ _ (ne-eqb _ _ (c4 .if3 .left)) ∙ failed _ _ (ne-eqb _ _ (c .before .before .before .if4 .left)) ∙ failed _ _ (ne-eqb _ _ (c .before .before .if5 .left)) ∙ held _ _ (even (c4 .before .before .before .args .code) (c .before .if6 .left) (c .if7 .taken))))
 
 returns-8 : tie.Need-returns-8
 unfolding kindOf
-returns-8 c = ap paperKind (sym (failed _ _ (ne-eqb _ _ (c .before .before .before .before .before .before .if1 .left)) ∙ failed _ _ (ne-eqb _ _ (c .before .before .before .before .before .if2 .left)) ∙ failed _ _ (ne-eqb _ _ (c .before .before .before .before .if3 .left)) ∙ failed _ _ (ne-eqb _ _ (c .before .before .before .if4 .left)) ∙ failed _ _ (ne-eqb _ _ (c .before .before .if5 .left)) ∙ failed _ _ (odd (c .before .before .before .before .before .before .before .args .code) (c .before .if6 .left) (c .if7 .left))))
+returns-8 c =
+    let c4 = c .before .before .before .before in
+    ap paperKind (sym (failed _ _ (ne-eqb _ _ (c4 .before .before .if1 .left)) ∙ failed _ _ (ne-eqb _ _ (c4 .before .if2 .left)) ∙ failed _ _ (ne-eqb _ _ (c4 .if3 .left)) ∙ failed _ _ (ne-eqb _ _ (c .before .before .before .if4 .left)) ∙ failed _ _ (ne-eqb _ _ (c .before .before .if5 .left)) ∙ failed _ _ (odd (c4 .before .before .before .args .code) (c .before .if6 .left) (c .if7 .left))))
 
 pub of-code-spec : {M : Type 1} → statement M
 of-code-spec =

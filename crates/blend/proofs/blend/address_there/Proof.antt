@@ -3,8 +3,10 @@ use Prim.Native.Nat.{ℕ, _+_}
 use mathlib.Core.Path.{_∙_, sym, ap}
 use native.Mathlib.Omega.{arith}
 use denote.Ref.{now}
-use Rattle.primitive.specs.PointerSize.{pointerBytes}
-use Rattle.primitive.specs.Helpers.{numberAt}
+use Rattle.bytes.specs.PointerSize.{pointerBytes}
+use Rattle.bytes.specs.declared.Endianness.the-variants.{Big}
+use Rattle.bytes.specs.Helpers.{numberAt}
+use Rattle.blend.specs.Blocks.{codeTold}
 use Rattle.blend.proofs.There.{length-parts, address-of}
 use borrow.Author.Needs.{needs}
 use Rattle.blend.proofs.blend.address_there.Statement.{statement}
@@ -17,7 +19,9 @@ add-word : tie.Need-add-word
 add-word c = search needs
 
 word-requires : tie.Need-word-requires
-word-requires c κs = omega (arith, c .before .before .before .pre, length-parts (c .before .before .before .args .h .format) (c .before .before .before .args .h .«pointer_size»), ap pointerBytes (c .enum-told .given .1))
+word-requires c κs =
+    let a = c .before .before .before .args in
+    omega (arith, c .before .before .before .pre, length-parts (a .h .format) (a .h .«pointer_size»), ap pointerBytes (c .enum-told .given .1))
 
 enum-told-2 : tie.Need-enum-told-2
 enum-told-2 c = search needs
@@ -26,19 +30,21 @@ add-long : tie.Need-add-long
 add-long c = search needs
 
 long-requires : tie.Need-long-requires
-long-requires c κs = omega (arith, c .before .before .before .pre, length-parts (c .before .before .before .args .h .format) (c .before .before .before .args .h .«pointer_size»), ap pointerBytes (c .enum-told2 .given .1))
+long-requires c κs =
+    let a = c .before .before .before .args in
+    omega (arith, c .before .before .before .pre, length-parts (a .h .format) (a .h .«pointer_size»), ap pointerBytes (c .enum-told2 .given .1))
 
 returns : tie.Need-returns
 returns c =
     let a = c .before .before .before .before .args in
     c .word .ensures ∙ ap (λ (k : ℕ). numberAt (a .h .endianness) k (now (a .s)) (a .at + 8)) (sym (ap pointerBytes (c .before .enum-told .given .1)))
-    ∙ sym (address-of (a .h .format) (pointerBytes (a .h .«pointer_size»)) (a .h .endianness) (now (a .s)) (a .at))
+    ∙ sym (address-of (a .h .format) (pointerBytes (a .h .«pointer_size»)) (a .h .endianness) (now (a .s)) (a .at) (codeTold (numberAt Big 4 (now (a .s)) (a .at))))
 
 returns-2 : tie.Need-returns-2
 returns-2 c =
     let a = c .before .before .before .before .args in
     c .long .ensures ∙ ap (λ (k : ℕ). numberAt (a .h .endianness) k (now (a .s)) (a .at + 8)) (sym (ap pointerBytes (c .before .enum-told2 .given .1)))
-    ∙ sym (address-of (a .h .format) (pointerBytes (a .h .«pointer_size»)) (a .h .endianness) (now (a .s)) (a .at))
+    ∙ sym (address-of (a .h .format) (pointerBytes (a .h .«pointer_size»)) (a .h .endianness) (now (a .s)) (a .at) (codeTold (numberAt Big 4 (now (a .s)) (a .at))))
 
 pub address-there-spec : {M : Type 1} → statement M
 address-there-spec =

@@ -15,7 +15,9 @@ stands-at-requires : tie.Need-stands-at-requires
 stands-at-requires c κs = search needs
 
 returns : tie.Need-returns
-returns c = end-mark (c .before .before .before .before .args .h) (now (c .before .before .before .before .args .s)) (c .before .before .before .before .args .at) (sym (c .before .stands-at .ensures) ∙ c .if1 .taken)
+returns c =
+    let a = c .before .before .before .before .args in
+    end-mark (a .h) (now (a .s)) (a .at) (sym (c .before .stands-at .ensures) ∙ c .if1 .taken)
 
 block-requires : tie.Need-block-requires
 block-requires c κs = search needs
@@ -27,13 +29,23 @@ enum-known-r : tie.Need-enum-known-r
 enum-known-r c = search needs
 
 finished-requires : tie.Need-finished-requires
-finished-requires c κs = let w = row-lies (c .before .before .before .before .before .before .before .before .args .h) (now (c .before .before .before .before .before .before .before .before .args .s)) (c .before .before .before .before .before .before .before .before .args .at) _ _ (sym (ap rowRead (sym (c .before .r .given .1)) ∙ c .before .before .before .block .ensures)) in omega (arith, w .payload, w .inside)
+finished-requires c κs =
+    let a = c .before .before .before .before .before .before .before .before .args in
+    let w = row-lies (a .h) (now (a .s)) (a .at) _ _ (sym (ap rowRead (sym (c .before .r .given .1)) ∙ c .before .before .before .block .ensures)) in omega (arith, w .payload, w .inside)
 
 returns-2 : tie.Need-returns-2
-returns-2 c = boundary-stops (c .before .before .before .before .before .before .before .before .args .h) (now (c .before .before .before .before .before .before .before .before .args .s)) (c .before .before .before .before .before .before .before .before .args .at) (sym (c .before .before .before .before .before .stands-at .ensures) ∙ c .before .before .before .before .if1 .left) _ (ap rowRead (sym (c .before .f .given .1)) ∙ c .before .before .before .block .ensures)
+returns-2 c =
+    let c4 = c .before .before .before .before in
+    let c8 = c4 .before .before .before .before in
+    let a = c8 .args in
+    boundary-stops (a .h) (now (a .s)) (a .at) (sym (c4 .before .stands-at .ensures) ∙ c4 .if1 .left) _ (ap rowRead (sym (c .before .f .given .1)) ∙ c .before .before .before .block .ensures)
 
 returns-3 : tie.Need-returns-3
-returns-3 c = c .finished .ensures ∙ boundary-block (c .before .before .before .before .before .before .before .before .before .args .h) (now (c .before .before .before .before .before .before .before .before .before .args .s)) (c .before .before .before .before .before .before .before .before .before .args .at) (sym (c .before .before .before .before .before .before .stands-at .ensures) ∙ c .before .before .before .before .before .if1 .left) _ _ (ap rowRead (sym (c .before .before .r .given .1)) ∙ c .before .before .before .before .block .ensures)
+returns-3 c =
+    let c4 = c .before .before .before .before in
+    let c8 = c4 .before .before .before .before in
+    let a = c8 .before .args in
+    c .finished .ensures ∙ boundary-block (a .h) (now (a .s)) (a .at) (sym (c4 .before .before .stands-at .ensures) ∙ c4 .before .if1 .left) _ _ (ap rowRead (sym (c .before .before .r .given .1)) ∙ c4 .block .ensures)
 
 pub boundary-at-spec : {M : Type 1} → statement M
 boundary-at-spec =

@@ -1,8 +1,11 @@
 -- `finished`: a DNA1's catalogue, read on the payload.
+use mathlib.Core.Path.{ap}
 use native.Mathlib.Omega.{arith}
 use denote.Ref.{now}
-use Rattle.blend.proofs.Rows.{part-same, part-long, other-finished, dna-finished, dna-stopped, dna-placed}
-use Rattle.blend.proofs.Lossless.{wholeKind}
+use Rattle.bytes.proofs.Parts.{slice-same, slice-long}
+use Rattle.blend.proofs.Rows.{other-finished, dna-finished, dna-stopped, dna-placed}
+use Rattle.blend.proofs.Lossless.{whole-kind}
+use Rattle.blend.specs.declared.About.{About}
 use borrow.Author.Needs.{needs}
 use Rattle.blend.proofs.blend.finished.Statement.{statement}
 use Rattle.blend.proofs.blend.finished.Tie as tie
@@ -10,8 +13,8 @@ use Rattle.blend.proofs.blend.finished.Tie as tie
 of-code-requires : tie.Need-of-code-requires
 of-code-requires c κs = search needs
 
-is-dna-requires : tie.Need-is-dna-requires
-is-dna-requires c κs = search needs
+about-requires : tie.Need-about-requires
+about-requires c κs = search needs
 
 add-dna-counts : tie.Need-add-dna-counts
 add-dna-counts c = search needs
@@ -35,23 +38,37 @@ enum-known-f : tie.Need-enum-known-f
 enum-known-f c = search needs
 
 within-requires : tie.Need-within-requires
-within-requires c κs = (omega (arith, c .before .before .before .before .before .before .before .before .before .pre), dna-placed (c .before .before .before .before .before .before .before .before .before .args .h) (now (c .before .before .before .before .before .before .before .before .before .args .s)) (c .before .before .before .before .before .before .before .before .before .args .r) (c .before .before .before .before .before .before .before .before .before .args .next) _ (wholeKind (c .before .before .before .before .before .before .before .of-code .result) _ (c .before .before .before .before .before .before .before .of-code .ensures)) _ (c .before .before .before .before .before .before .is-dna .ensures) (c .before .before .before .before .before .if1 .taken) _ (part-same (now (c .before .before .before .before .before .before .before .before .before .args .s)) (c .before .before .before .before .before .before .before .before .before .args .r .payload) (c .before .before .before .before .before .before .before .before .before .args .r .len)) _ (c .before .before .before .dna-counts .ensures .1) _ (c .before .f .given .1) _ (part-long (now (c .before .before .before .before .before .before .before .before .before .args .s)) (c .before .before .before .before .before .before .before .before .before .args .r .payload) (c .before .before .before .before .before .before .before .before .before .args .r .len) (c .before .before .before .before .before .before .before .before .before .pre)))
+within-requires c κs =
+    let c4 = c .before .before .before .before in
+    let c8 = c4 .before .before .before .before in
+    let a = c8 .before .args in
+    (omega (arith, c8 .before .pre), dna-placed (a .h) (now (a .s)) (a .r) (a .next) _ (whole-kind (c4 .before .before .before .of-code .result) _ (c4 .before .before .before .of-code .ensures)) _ (ap (λ (x : About). x .dna) (c4 .before .before .about .ensures)) (c4 .before .if1 .taken) _ (slice-same (now (a .s)) (a .r .payload) (a .r .len)) _ (c .before .before .before .dna-counts .ensures .1) _ (c .before .f .given .1) _ (slice-long (now (a .s)) (a .r .payload) (a .r .len) (c8 .before .pre)))
 
 returns : tie.Need-returns
-returns c = dna-finished (c .before .before .before .before .before .before .before .before .before .args .h) (now (c .before .before .before .before .before .before .before .before .before .args .s)) (c .before .before .before .before .before .before .before .before .before .args .r) (c .before .before .before .before .before .before .before .before .before .args .next) _ (wholeKind (c .before .before .before .before .before .before .before .of-code .result) _ (c .before .before .before .before .before .before .before .of-code .ensures)) _ (c .before .before .before .before .before .before .is-dna .ensures) (c .before .before .before .before .before .if1 .taken) _ (part-same (now (c .before .before .before .before .before .before .before .before .before .args .s)) (c .before .before .before .before .before .before .before .before .before .args .r .payload) (c .before .before .before .before .before .before .before .before .before .args .r .len)) _ (c .before .before .before .dna-counts .ensures .1) _ _ (c .before .n .given .1)
+returns c =
+    let c4 = c .before .before .before .before in
+    let c8 = c4 .before .before .before .before in
+    let a = c8 .before .args in
+    dna-finished (a .h) (now (a .s)) (a .r) (a .next) _ (whole-kind (c4 .before .before .before .of-code .result) _ (c4 .before .before .before .of-code .ensures)) _ (ap (λ (x : About). x .dna) (c4 .before .before .about .ensures)) (c4 .before .if1 .taken) _ (slice-same (now (a .s)) (a .r .payload) (a .r .len)) _ (c .before .before .before .dna-counts .ensures .1) _ _ (c .before .n .given .1)
 
 returns-2 : tie.Need-returns-2
-returns-2 c = dna-stopped (c .before .before .before .before .before .before .before .before .before .before .args .h) (now (c .before .before .before .before .before .before .before .before .before .before .args .s)) (c .before .before .before .before .before .before .before .before .before .before .args .r) (c .before .before .before .before .before .before .before .before .before .before .args .next) _ (wholeKind (c .before .before .before .before .before .before .before .before .of-code .result) _ (c .before .before .before .before .before .before .before .before .of-code .ensures)) _ (c .before .before .before .before .before .before .before .is-dna .ensures) (c .before .before .before .before .before .before .if1 .taken) _ (part-same (now (c .before .before .before .before .before .before .before .before .before .before .args .s)) (c .before .before .before .before .before .before .before .before .before .before .args .r .payload) (c .before .before .before .before .before .before .before .before .before .before .args .r .len)) _ (c .before .before .before .before .dna-counts .ensures .1) _ (c .before .before .f .given .1) _ (c .within .ensures)
+returns-2 c =
+    let c4 = c .before .before .before .before in
+    let c8 = c4 .before .before .before .before in
+    let a = c8 .before .before .args in
+    dna-stopped (a .h) (now (a .s)) (a .r) (a .next) _ (whole-kind (c8 .of-code .result) _ (c8 .of-code .ensures)) _ (ap (λ (x : About). x .dna) (c4 .before .before .before .about .ensures)) (c4 .before .before .if1 .taken) _ (slice-same (now (a .s)) (a .r .payload) (a .r .len)) _ (c4 .dna-counts .ensures .1) _ (c .before .before .f .given .1) _ (c .within .ensures)
 
 returns-3 : tie.Need-returns-3
-returns-3 c = other-finished (c .before .before .before .before .args .h) (now (c .before .before .before .before .args .s)) (c .before .before .before .before .args .r) (c .before .before .before .before .args .next) _ (wholeKind (c .before .before .of-code .result) _ (c .before .before .of-code .ensures)) _ (c .before .is-dna .ensures) (c .if1 .left)
+returns-3 c =
+    let a = c .before .before .before .before .args in
+    other-finished (a .h) (now (a .s)) (a .r) (a .next) _ (whole-kind (c .before .before .of-code .result) _ (c .before .before .of-code .ensures)) _ (ap (λ (x : About). x .dna) (c .before .about .ensures)) (c .if1 .left)
 
 pub finished-spec : {M : Type 1} → statement M
 finished-spec =
     tie.close
     (tie.spec
     of-code-requires
-    is-dna-requires
+    about-requires
     add-dna-counts
     sub-dna-counts
     part-dna-counts-start

@@ -1,7 +1,11 @@
 -- `header_there`: its five numbers.
 use native.Mathlib.Omega.{arith}
 use denote.Ref.{now}
-use Rattle.primitive.specs.PointerSize.{pointerBytes}
+use Prim.Native.Nat.{_+_}
+use Rattle.bytes.specs.declared.Endianness.the-variants.{Big}
+use Rattle.bytes.specs.Helpers.{numberAt}
+use Rattle.bytes.specs.PointerSize.{pointerBytes}
+use Rattle.blend.specs.Blocks.{codeTold}
 use Rattle.blend.proofs.There.{length-parts, told-again}
 use borrow.Author.Needs.{needs}
 use Rattle.blend.proofs.blend.header_there.Statement.{statement}
@@ -24,9 +28,10 @@ count-there-requires c κs = search needs
 
 returns : tie.Need-returns
 returns c =
-    let a = c .before .before .before .before .before .before .args in
-    rw (c .before .before .before .before .word .ensures, c .before .before .before .size-there .ensures, c .before .before .address-there .ensures, c .before .index-there .ensures, c .count-there .ensures)
-    (told-again (a .h .format) (pointerBytes (a .h .«pointer_size»)) (a .h .endianness) (now (a .s)) (a .at))
+    let c4 = c .before .before .before .before in
+    let a = c4 .before .before .args in
+    rw (c4 .word .ensures, c .before .before .before .size-there .ensures, c .before .before .address-there .ensures, c .before .index-there .ensures, c .count-there .ensures)
+    (told-again (a .h .format) (pointerBytes (a .h .«pointer_size»)) (a .h .endianness) (now (a .s)) (a .at + 4) (codeTold (numberAt Big 4 (now (a .s)) (a .at))))
 
 pub header-there-spec : {M : Type 1} → statement M
 header-there-spec =

@@ -3,8 +3,8 @@ use Prim.Native.Nat.{ℕ}
 use mathlib.Core.Path.{_∙_, ap}
 use native.Mathlib.Omega.{arith}
 use denote.Ref.{now}
-use Rattle.primitive.specs.Helpers.{numberAt}
-use Rattle.blend.specs.Helpers.{otherWidth}
+use Rattle.bytes.specs.Helpers.{numberAt}
+use Rattle.blend.specs.Helpers.{lastWidth}
 use Rattle.blend.proofs.There.{length-parts}
 use borrow.Author.Needs.{needs}
 use Rattle.blend.proofs.blend.index_there.Statement.{statement}
@@ -17,7 +17,9 @@ last-two-requires : tie.Need-last-two-requires
 last-two-requires c κs = search needs
 
 word-requires : tie.Need-word-requires
-word-requires c κs = omega (arith, c .before .before .before .before .pre, length-parts (c .before .before .before .before .args .h .format) (c .before .before .before .before .args .h .«pointer_size»), ap otherWidth (c .before .enum-told .given .1), c .last-two .ensures)
+word-requires c κs =
+    let a = c .before .before .before .before .args in
+    omega (arith, c .before .before .before .before .pre, length-parts (a .h .format) (a .h .«pointer_size»), ap lastWidth (c .before .enum-told .given .1), c .last-two .ensures)
 
 enum-told-2 : tie.Need-enum-told-2
 enum-told-2 c = search needs
@@ -26,10 +28,14 @@ add-word : tie.Need-add-word
 add-word c = search needs
 
 word-requires-2 : tie.Need-word-requires-2
-word-requires-2 c κs = omega (arith, c .before .before .before .pre, length-parts (c .before .before .before .args .h .format) (c .before .before .before .args .h .«pointer_size»), ap otherWidth (c .enum-told2 .given .1))
+word-requires-2 c κs =
+    let a = c .before .before .before .args in
+    omega (arith, c .before .before .before .pre, length-parts (a .h .format) (a .h .«pointer_size»), ap lastWidth (c .enum-told2 .given .1))
 
 returns : tie.Need-returns
-returns c = rw (c .before .before .enum-told .given .1) (c .word .ensures ∙ ap (λ (k : ℕ). numberAt (c .before .before .before .before .before .args .h .endianness) 4 (now (c .before .before .before .before .before .args .s)) k) (c .before .last-two .ensures))
+returns c =
+    let a = c .before .before .before .before .before .args in
+    rw (c .before .before .enum-told .given .1) (c .word .ensures ∙ ap (λ (k : ℕ). numberAt (a .h .endianness) 4 (now (a .s)) k) (c .before .last-two .ensures))
 
 returns-2 : tie.Need-returns-2
 returns-2 c = rw (c .before .enum-told2 .given .1) (c .word2 .ensures)

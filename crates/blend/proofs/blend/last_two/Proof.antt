@@ -1,6 +1,6 @@
 -- `last_two`: after the code, the first number and the address.
 use native.Mathlib.Omega.{arith}
-use Rattle.blend.proofs.Layouts.{pointer-le}
+use Rattle.header.proofs.Lengths.{pointer-le}
 use borrow.Author.Needs.{needs}
 use Rattle.blend.proofs.blend.last_two.Statement.{statement}
 use Rattle.blend.proofs.blend.last_two.Tie as tie

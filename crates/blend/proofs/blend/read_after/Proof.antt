@@ -13,26 +13,40 @@ count-blocks-requires c κs = search needs
 enum-known-f : tie.Need-enum-known-f
 enum-known-f c = search needs
 
-number-of-requires : tie.Need-number-of-requires
-number-of-requires c κs = search needs
+refusal-requires : tie.Need-refusal-requires
+refusal-requires c κs = search needs
 
 enum-known-rows : tie.Need-enum-known-rows
 enum-known-rows c = search needs
 
 returns : tie.Need-returns
-returns c = (after-short (c .before .before .before .before .before .before .before .args .h) (chainFrom (c .before .before .before .before .before .before .before .args .h) (now (c .before .before .before .before .before .before .before .args .file)) (c .before .before .before .before .before .before .before .args .from)) _ _ _ _ (sym (c .before .before .rows .given .1) ∙ c .before .before .before .before .count-blocks .ensures) (c .if1 .taken), refl)
+returns c =
+    let c4 = c .before .before .before .before in
+    let a = c4 .before .before .before .args in
+    (after-short (a .h) (chainFrom (a .h) (now (a .file)) (a .from)) _ _ _ _ (sym (c .before .before .rows .given .1) ∙ c4 .count-blocks .ensures) (c .if1 .taken), refl)
 
 fill-rows-requires : tie.Need-fill-rows-requires
-fill-rows-requires c κs = (rows-fit (c .before .before .before .before .before .before .before .before .args .h) (now (c .before .before .before .before .before .before .before .before .args .file)) (c .before .before .before .before .before .before .before .before .args .from) _ _ _ (sym (c .before .before .before .rows .given .1) ∙ c .before .before .before .before .before .count-blocks .ensures) (now (c .before .before .before .before .before .before .before .before .args .table)) (c .before .if1 .left), rows-all (c .before .before .before .before .before .before .before .before .args .h) (now (c .before .before .before .before .before .before .before .before .args .file)) (c .before .before .before .before .before .before .before .before .args .from) _ _ _ (sym (c .before .before .before .rows .given .1) ∙ c .before .before .before .before .before .count-blocks .ensures))
+fill-rows-requires c κs =
+    let c4 = c .before .before .before .before in
+    let c8 = c4 .before .before .before .before in
+    let a = c8 .args in
+    (rows-fit (a .h) (now (a .file)) (a .from) _ _ _ (sym (c .before .before .before .rows .given .1) ∙ c4 .before .count-blocks .ensures) (now (a .table)) (c .before .if1 .left), rows-all (a .h) (now (a .file)) (a .from) _ _ _ (sym (c .before .before .before .rows .given .1) ∙ c4 .before .count-blocks .ensures))
 
 returns-2 : tie.Need-returns-2
-returns-2 c = (after-stops (c .before .before .before .before .before .before .before .args .h) (chainFrom (c .before .before .before .before .before .before .before .args .h) (now (c .before .before .before .before .before .before .before .args .file)) (c .before .before .before .before .before .before .before .args .from)) _ _ (sym (c .before .before .f .given .1) ∙ c .before .before .before .before .count-blocks .ensures) _ (c .number-of .ensures), refl)
+returns-2 c =
+    let c4 = c .before .before .before .before in
+    let a = c4 .before .before .before .args in
+    (after-stops (a .h) (chainFrom (a .h) (now (a .file)) (a .from)) _ _ (sym (c .before .before .f .given .1) ∙ c4 .count-blocks .ensures) _ (c .refusal .ensures), refl)
 
 same-length : tie.Need-same-length
 same-length c = search needs
 
 returns-3 : tie.Need-returns-3
-returns-3 c = (after-read (c .before .before .before .before .before .before .before .before .before .before .before .args .h) (chainFrom (c .before .before .before .before .before .before .before .before .before .before .before .args .h) (now (c .before .before .before .before .before .before .before .before .before .before .before .args .file)) (c .before .before .before .before .before .before .before .before .before .before .before .args .from)) _ _ _ _ (sym (c .before .before .before .before .before .before .rows .given .1) ∙ c .before .before .before .before .before .before .before .before .count-blocks .ensures) (c .before .before .before .before .if1 .left), rows-written (c .before .before .before .before .before .before .before .before .before .before .before .args .h) (now (c .before .before .before .before .before .before .before .before .before .before .before .args .file)) (c .before .before .before .before .before .before .before .before .before .before .before .args .from) _ _ _ (sym (c .before .before .before .before .before .before .rows .given .1) ∙ c .before .before .before .before .before .before .before .before .count-blocks .ensures) (now (c .before .before .before .before .before .before .before .before .before .before .before .args .table)) _ (c .before .before .before .before .if1 .left) (c .before .before .fill-rows .ensures))
+returns-3 c =
+    let c4 = c .before .before .before .before in
+    let c8 = c4 .before .before .before .before in
+    let a = c8 .before .before .before .args in
+    (after-read (a .h) (chainFrom (a .h) (now (a .file)) (a .from)) _ _ _ _ (sym (c4 .before .before .rows .given .1) ∙ c8 .count-blocks .ensures) (c4 .if1 .left), rows-written (a .h) (now (a .file)) (a .from) _ _ _ (sym (c4 .before .before .rows .given .1) ∙ c8 .count-blocks .ensures) (now (a .table)) _ (c4 .if1 .left) (c .before .before .fill-rows .ensures))
 
 pub read-after-spec : {M : Type 1} → statement M
 read-after-spec =
@@ -40,7 +54,7 @@ read-after-spec =
     (tie.spec
     count-blocks-requires
     enum-known-f
-    number-of-requires
+    refusal-requires
     enum-known-rows
     returns
     fill-rows-requires

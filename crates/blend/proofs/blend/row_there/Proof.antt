@@ -2,8 +2,11 @@
 use mathlib.Core.Path.{ap}
 use native.Mathlib.Omega.{arith}
 use denote.Ref.{now}
-use Rattle.primitive.specs.PointerSize.{pointerBytes}
-use Rattle.blend.specs.Blocks.{rowOf}
+use Prim.Native.Nat.{_+_}
+use Rattle.bytes.specs.declared.Endianness.the-variants.{Big}
+use Rattle.bytes.specs.Helpers.{numberAt}
+use Rattle.bytes.specs.PointerSize.{pointerBytes}
+use Rattle.blend.specs.Blocks.{codeTold, rowOf}
 use Rattle.blend.proofs.There.{length-parts, told-again}
 use borrow.Author.Needs.{needs}
 use Rattle.blend.proofs.blend.row_there.Statement.{statement}
@@ -16,7 +19,9 @@ add-start : tie.Need-add-start
 add-start c = search needs
 
 word-requires : tie.Need-word-requires
-word-requires c κs = omega (arith, c .before .before .pre, length-parts (c .before .before .args .h .format) (c .before .before .args .h .«pointer_size»))
+word-requires c κs =
+    let a = c .before .before .args in
+    omega (arith, c .before .before .pre, length-parts (a .h .format) (a .h .«pointer_size»))
 
 address-there-requires : tie.Need-address-there-requires
 address-there-requires c κs = search needs
@@ -32,9 +37,10 @@ size-there-requires c κs = search needs
 
 returns : tie.Need-returns
 returns c =
-    let a = c .before .before .before .before .before .before .before .args in
-    rw (c .before .before .before .before .word .ensures, c .before .before .before .address-there .ensures, c .before .before .index-there .ensures, c .before .count-there .ensures, c .size-there .ensures, c .before .before .before .before .before .block-header-len .ensures .0)
-    (ap (rowOf (a .h) (a .at)) (told-again (a .h .format) (pointerBytes (a .h .«pointer_size»)) (a .h .endianness) (now (a .s)) (a .at)))
+    let c4 = c .before .before .before .before in
+    let a = c4 .before .before .before .args in
+    rw (c4 .word .ensures, c .before .before .before .address-there .ensures, c .before .before .index-there .ensures, c .before .count-there .ensures, c .size-there .ensures, c4 .before .block-header-len .ensures .0)
+    (ap (rowOf (a .h) (a .at)) (told-again (a .h .format) (pointerBytes (a .h .«pointer_size»)) (a .h .endianness) (now (a .s)) (a .at + 4) (codeTold (numberAt Big 4 (now (a .s)) (a .at)))))
 
 pub row-there-spec : {M : Type 1} → statement M
 row-there-spec =

@@ -3,9 +3,9 @@ use Prim.Native.Nat.{ℕ}
 use mathlib.Core.Path.{_∙_, ap}
 use native.Mathlib.Omega.{arith}
 use denote.Ref.{now}
-use Rattle.primitive.specs.declared.Endianness.the-variants.{Little}
-use Rattle.primitive.specs.Helpers.{numberAt}
-use Rattle.blend.specs.Helpers.{otherWidth}
+use Rattle.bytes.specs.declared.Endianness.the-variants.{Little}
+use Rattle.bytes.specs.Helpers.{numberAt}
+use Rattle.blend.specs.Helpers.{lastWidth}
 use Rattle.blend.proofs.There.{length-parts}
 use borrow.Author.Needs.{needs}
 use Rattle.blend.proofs.blend.size_there.Statement.{statement}
@@ -18,7 +18,9 @@ add-word : tie.Need-add-word
 add-word c = search needs
 
 word-requires : tie.Need-word-requires
-word-requires c κs = omega (arith, c .before .before .before .pre, length-parts (c .before .before .before .args .h .format) (c .before .before .before .args .h .«pointer_size»), ap otherWidth (c .enum-told .given .1))
+word-requires c κs =
+    let a = c .before .before .before .args in
+    omega (arith, c .before .before .before .pre, length-parts (a .h .format) (a .h .«pointer_size»), ap lastWidth (c .enum-told .given .1))
 
 enum-told-2 : tie.Need-enum-told-2
 enum-told-2 c = search needs
@@ -27,7 +29,9 @@ last-two-requires : tie.Need-last-two-requires
 last-two-requires c κs = search needs
 
 long-requires : tie.Need-long-requires
-long-requires c κs = omega (arith, c .before .before .before .before .pre, length-parts (c .before .before .before .before .args .h .format) (c .before .before .before .before .args .h .«pointer_size»), ap otherWidth (c .before .enum-told2 .given .1), c .last-two .ensures)
+long-requires c κs =
+    let a = c .before .before .before .before .args in
+    omega (arith, c .before .before .before .before .pre, length-parts (a .h .format) (a .h .«pointer_size»), ap lastWidth (c .before .enum-told2 .given .1), c .last-two .ensures)
 
 returns : tie.Need-returns
 returns c = rw (c .before .enum-told .given .1) (c .word .ensures)

@@ -1,7 +1,7 @@
--- `taken`: by the kind, and a Principal by its count.
+-- `taken`: as the kind says, and a Principal by its count.
 use mathlib.Core.Path.{refl, sym}
 use borrow.Author.Tests.{eq-eqb, ne-eqb}
-use Rattle.primitive.proofs.Tests.{held, failed}
+use Rattle.bytes.proofs.Tests.{held, failed}
 use borrow.Author.Needs.{needs}
 use Rattle.blend.proofs.blend.taken.Statement.{statement}
 use Rattle.blend.proofs.blend.taken.Tie as tie
@@ -15,58 +15,18 @@ enum-told-2 c = search needs
 enum-told-3 : tie.Need-enum-told-3
 enum-told-3 c = search needs
 
-enum-told-4 : tie.Need-enum-told-4
-enum-told-4 c = search needs
-
-enum-told-5 : tie.Need-enum-told-5
-enum-told-5 c = search needs
-
-enum-told-6 : tie.Need-enum-told-6
-enum-told-6 c = search needs
-
-enum-told-7 : tie.Need-enum-told-7
-enum-told-7 c = search needs
-
 returns : tie.Need-returns
-returns c = rw (c .enum-told .given .1) refl
+returns c = search needs
 
 returns-2 : tie.Need-returns-2
-returns-2 c = rw (c .enum-told2 .given .1) refl
+returns-2 c = rw (c .before .enum-told2 .given .1) (sym (held _ _ (eq-eqb _ _ (c .if1 .taken))))
 
 returns-3 : tie.Need-returns-3
-returns-3 c = rw (c .enum-told3 .given .1) refl
+returns-3 c = rw (c .before .enum-told2 .given .1) (sym (failed _ _ (ne-eqb _ _ (c .if1 .left))))
 
 returns-4 : tie.Need-returns-4
-returns-4 c = rw (c .enum-told4 .given .1) refl
-
-returns-5 : tie.Need-returns-5
-returns-5 c = rw (c .enum-told5 .given .1) refl
-
-returns-6 : tie.Need-returns-6
-returns-6 c = rw (c .before .enum-told6 .given .1) (sym (held _ _ (eq-eqb _ _ (c .if1 .taken))))
-
-returns-7 : tie.Need-returns-7
-returns-7 c = rw (c .before .enum-told6 .given .1) (sym (failed _ _ (ne-eqb _ _ (c .if1 .left))))
-
-returns-8 : tie.Need-returns-8
-returns-8 c = rw (c .enum-told7 .given .1) refl
+returns-4 c = rw (c .enum-told3 .given .1) refl
 
 pub taken-spec : {M : Type 1} → statement M
 taken-spec =
-    tie.close
-    (tie.spec
-    enum-told
-    enum-told-2
-    enum-told-3
-    enum-told-4
-    enum-told-5
-    enum-told-6
-    enum-told-7
-    returns
-    returns-2
-    returns-3
-    returns-4
-    returns-5
-    returns-6
-    returns-7
-    returns-8)
+    tie.close (tie.spec enum-told enum-told-2 enum-told-3 returns returns-2 returns-3 returns-4)

@@ -1,7 +1,7 @@
 -- `with_address`: an address that is 0, or the header as it is.
 use mathlib.Core.Path.{sym}
 use borrow.Author.Tests.{eq-eqb, ne-eqb}
-use Rattle.primitive.proofs.Tests.{held, failed}
+use Rattle.bytes.proofs.Tests.{held, failed}
 use Rattle.blend.proofs.blend.with_address.Statement.{statement}
 use Rattle.blend.proofs.blend.with_address.Tie as tie
 

@@ -33,13 +33,15 @@ enum-told c = search needs
 
 returns : tie.Need-returns
 returns c =
-    let a = c .before .before .before .before .before .before .args in
-    value-is 4 (a .order) (now (a .s)) (a .at) (c .before .before .before .before .before .before .pre) _ (ap paperU32 (sym (c .before .n .given .1)) ∙ c .before .before .before .parse-u32 .ensures)
+    let c4 = c .before .before .before .before in
+    let a = c4 .before .before .args in
+    value-is 4 (a .order) (now (a .s)) (a .at) (c4 .before .before .pre) _ (ap paperU32 (sym (c .before .n .given .1)) ∙ c .before .before .before .parse-u32 .ensures)
 
 returns-2 : tie.Need-returns-2
 returns-2 c =
-    let a = c .before .before .before .before .before .args in
-    value-lacks 4 (a .order) (now (a .s)) (a .at) (c .before .before .before .before .before .pre) (ap paperU32 (sym (c .enum-told .given .1)) ∙ c .before .before .parse-u32 .ensures)
+    let c4 = c .before .before .before .before in
+    let a = c4 .before .args in
+    value-lacks 4 (a .order) (now (a .s)) (a .at) (c4 .before .pre) _ (ap paperU32 (sym (c .enum-told .given .1)) ∙ c .before .before .parse-u32 .ensures)
 
 pub word-spec : {M : Type 1} → statement M
 word-spec =

@@ -3,10 +3,10 @@ use Prim.Native.Nat.{_+_, _-_}
 use native.Mathlib.Omega.{arith}
 use borrow.Author.Needs.{needs}
 use denote.Ref.{now}
-use Rattle.primitive.specs.Helpers.{leading}
-use Rattle.primitive.proofs.Filling.{Storing, storing-from-front, storing-ends}
+use Rattle.bytes.specs.Helpers.{leading}
+use Rattle.bytes.proofs.Filling.{Storing, storing-from-front, storing-ends, row-fits, row-stored}
 use Rattle.dna.specs.Catalogue.{pairs, fieldRows, field, struct}
-use Rattle.dna.proofs.Rows.{row-fits, row-stored, fields-more, fields-no-more, fields-none}
+use Rattle.dna.proofs.Rows.{fields-more, fields-no-more, fields-none}
 use Rattle.dna.proofs.dna.fill_fields.Statement.{statement}
 use Rattle.dna.proofs.dna.fill_fields.Tie as tie
 
@@ -31,8 +31,12 @@ add-fill-struct-fields c = omega (arith, (rw (c .before .before .count .given .1
 
 fill-struct-fields-requires : tie.Need-fill-struct-fields-requires Inv-loop μ-loop
 fill-struct-fields-requires c κs =
-    let w = rw (c .before .before .before .count .given .1) at (c .before .before .before .before .before .one-struct .ensures) in
-    (row-fits _ _ _ _ _ (pairs (leading (c .before .before .before .count .given .0 .1 .0) (field (c .before .before .before .before .before .before .before .before .before .before .args .e)) (now (c .before .before .before .before .before .before .before .before .before .before .args .s)) (c .before .before .before .before .before .before .before .loop .here .at + 4))) (fieldRows (leading (c .before .before .before .before .before .before .before .loop .left - 1) (struct (c .before .before .before .before .before .before .before .before .before .before .args .e)) (now (c .before .before .before .before .before .before .before .before .before .before .args .s)) (c .before .before .before .count .given .0 .1 .1 .0 .at))) _ (c .before .before .before .before .before .before .before .loop .inv) (fields-more (c .before .before .before .before .before .before .before .before .before .before .args .e) (now (c .before .before .before .before .before .before .before .before .before .before .args .s)) _ _ (c .before .before .before .before .before .before .loop-test .taken) _ _ _ ((rw (c .before .before .before .count .given .1) at (c .before .before .before .before .before .one-struct .ensures)) .0)), omega (arith, w .1, w .2))
+    let c4 = c .before .before .before .before in
+    let c8 = c4 .before .before .before .before in
+    let a = c8 .before .before .args in
+    let l = c4 .before .before .before .loop in
+    let w = rw (c .before .before .before .count .given .1) at (c4 .before .one-struct .ensures) in
+    (row-fits _ _ _ _ _ (pairs (leading (c .before .before .before .count .given .0 .1 .0) (field (a .e)) (now (a .s)) (l .here .at + 4))) (fieldRows (leading (l .left - 1) (struct (a .e)) (now (a .s)) (c .before .before .before .count .given .0 .1 .1 .0 .at))) _ (l .inv) (fields-more (a .e) (now (a .s)) _ _ (c4 .before .before .loop-test .taken) _ _ _ ((rw (c .before .before .before .count .given .1) at (c4 .before .one-struct .ensures)) .0)), omega (arith, w .1, w .2))
 
 sub-left : tie.Need-sub-left Inv-loop μ-loop
 sub-left c = omega arith
@@ -41,7 +45,13 @@ loop-less : tie.Need-loop-less Inv-loop μ-loop
 loop-less c = omega arith
 
 loop-again : tie.Need-loop-again Inv-loop μ-loop
-loop-again c = row-stored _ _ _ _ _ (pairs (leading (c .before .before .before .before .before .before .count .given .0 .1 .0) (field (c .before .before .before .before .before .before .before .before .before .before .before .before .before .args .e)) (now (c .before .before .before .before .before .before .before .before .before .before .before .before .before .args .s)) (c .before .before .before .before .before .before .before .before .before .before .loop .here .at + 4))) _ _ (c .before .before .before .before .before .before .before .before .before .before .loop .inv) (fields-more (c .before .before .before .before .before .before .before .before .before .before .before .before .before .args .e) (now (c .before .before .before .before .before .before .before .before .before .before .before .before .before .args .s)) _ _ (c .before .before .before .before .before .before .before .before .before .loop-test .taken) _ _ _ ((rw (c .before .before .before .before .before .before .count .given .1) at (c .before .before .before .before .before .before .before .before .one-struct .ensures)) .0)) _ _ (c .before .before .fill-struct-fields .ensures .1) (c .before .before .fill-struct-fields .ensures .0)
+loop-again c =
+    let c4 = c .before .before .before .before in
+    let c8 = c4 .before .before .before .before in
+    let c12 = c8 .before .before .before .before in
+    let a = c12 .before .args in
+    let l = c8 .before .before .loop in
+    row-stored _ _ _ _ _ (pairs (leading (c4 .before .before .count .given .0 .1 .0) (field (a .e)) (now (a .s)) (l .here .at + 4))) _ _ (l .inv) (fields-more (a .e) (now (a .s)) _ _ (c8 .before .loop-test .taken) _ _ _ ((rw (c4 .before .before .count .given .1) at (c8 .one-struct .ensures)) .0)) _ _ (c .before .before .fill-struct-fields .ensures .1) (c .before .before .fill-struct-fields .ensures .0)
 
 enum-told : tie.Need-enum-told Inv-loop μ-loop
 enum-told c = search needs
@@ -50,13 +60,18 @@ same-length : tie.Need-same-length Inv-loop μ-loop
 same-length c = c .before .before .before .before .loop .inv .long
 
 returns : tie.Need-returns Inv-loop μ-loop
-returns c = storing-ends _ _ _ _ _ _ (c .before .before .before .before .loop .inv) (fields-no-more (c .before .before .before .before .before .before .before .args .e) (now (c .before .before .before .before .before .before .before .args .s)) _ _ _ (rw (c .enum-told .given .1) at (c .before .before .one-struct .ensures)))
+returns c =
+    let c4 = c .before .before .before .before in
+    let a = c4 .before .before .before .args in
+    storing-ends _ _ _ _ _ _ (c4 .loop .inv) (fields-no-more (a .e) (now (a .s)) _ _ _ (rw (c .enum-told .given .1) at (c .before .before .one-struct .ensures)))
 
 same-length-2 : tie.Need-same-length-2 Inv-loop μ-loop
 same-length-2 c = c .before .loop .inv .long
 
 returns-2 : tie.Need-returns-2 Inv-loop μ-loop
-returns-2 c = storing-ends _ _ _ _ _ _ (c .before .loop .inv) (fields-none (c .before .before .before .before .args .e) (now (c .before .before .before .before .args .s)) _ _ (c .loop-test .left))
+returns-2 c =
+    let a = c .before .before .before .before .args in
+    storing-ends _ _ _ _ _ _ (c .before .loop .inv) (fields-none (a .e) (now (a .s)) _ _ (c .loop-test .left))
 
 pub fill-fields-spec : {M : Type 1} → statement M
 fill-fields-spec =

@@ -5,17 +5,17 @@ use mathlib.Core.Path.{sym, _∙_, ap}
 use native.Mathlib.Omega.{arith}
 use borrow.Author.Needs.{needs}
 use denote.Ref.{now}
-use Rattle.primitive.specs.Cursor.{counted}
-use Rattle.primitive.specs.Helpers.{leading}
-use Rattle.primitive.proofs.Filling.{Storing, storing-from-front, storing-ends}
-use Rattle.dna.specs.Catalogue.{pairs, place}
+use Rattle.bytes.specs.Cursor.{counted}
+use Rattle.bytes.specs.Helpers.{leading}
+use Rattle.bytes.proofs.Filling.{Storing, storing-from-front, storing-ends, row-fits, row-stored}
+use Rattle.dna.specs.Catalogue.{pairs, text}
 use Rattle.dna.proofs.Counting.{place-read, place-stops}
-use Rattle.dna.proofs.Rows.{row-fits, row-stored, pair-more, pair-stops, pair-none}
+use Rattle.dna.proofs.Rows.{pair-more, pair-stops, pair-none}
 use Rattle.dna.proofs.dna.fill_names.Statement.{statement}
 use Rattle.dna.proofs.dna.fill_names.Tie as tie
 
 abbrev Inv-loop : tie.InvT-loop
-Inv-loop s at n table₀ here₀ left₀ i₀ table here left i = Storing table₀ 0 (pairs (leading n place s at)) table i (pairs (leading left place s (here .at)))
+Inv-loop s at n table₀ here₀ left₀ i₀ table here left i = Storing table₀ 0 (pairs (leading n text s at)) table i (pairs (leading left text s (here .at)))
 
 abbrev μ-loop : tie.MeasureT-loop
 μ-loop s at n table₀ here₀ left₀ i₀ table here left i = left
@@ -30,7 +30,12 @@ enum-known-len : tie.Need-enum-known-len Inv-loop μ-loop
 enum-known-len c = search needs
 
 put-two-requires : tie.Need-put-two-requires Inv-loop μ-loop
-put-two-requires c κs = row-fits _ _ _ _ _ (c .before .before .before .before .before .before .loop .here .at ∷ c .before .before .len .given .0 .0 ∷ []) (pairs (leading (c .before .before .before .before .before .before .loop .left - 1) place (now (c .before .before .before .before .before .before .before .before .before .args .s)) (c .before .before .len .given .0 .1 .0 .at))) _ (c .before .before .before .before .before .before .loop .inv) (pair-more place (now (c .before .before .before .before .before .before .before .before .before .args .s)) _ _ (c .before .before .before .before .before .loop-test .taken) _ _ _ (place-read (now (c .before .before .before .before .before .before .before .before .before .args .s)) _ _ _ (ap counted (sym (c .before .before .len .given .1)) ∙ c .before .before .before .before .string .ensures)))
+put-two-requires c κs =
+    let c4 = c .before .before .before .before in
+    let c8 = c4 .before .before .before .before in
+    let a = c8 .before .args in
+    let l = c4 .before .before .loop in
+    row-fits _ _ _ _ _ (l .here .at ∷ c .before .before .len .given .0 .0 ∷ []) (pairs (leading (l .left - 1) text (now (a .s)) (c .before .before .len .given .0 .1 .0 .at))) _ (l .inv) (pair-more text (now (a .s)) _ _ (c4 .before .loop-test .taken) _ _ _ (place-read (now (a .s)) _ _ _ (ap counted (sym (c .before .before .len .given .1)) ∙ c4 .string .ensures)))
 
 sub-left : tie.Need-sub-left Inv-loop μ-loop
 sub-left c = omega arith
@@ -39,7 +44,13 @@ loop-less : tie.Need-loop-less Inv-loop μ-loop
 loop-less c = omega arith
 
 loop-again : tie.Need-loop-again Inv-loop μ-loop
-loop-again c = row-stored _ _ _ _ _ (c .before .before .before .before .before .before .before .before .before .loop .here .at ∷ c .before .before .before .before .before .len .given .0 .0 ∷ []) _ _ (c .before .before .before .before .before .before .before .before .before .loop .inv) (pair-more place (now (c .before .before .before .before .before .before .before .before .before .before .before .before .args .s)) _ _ (c .before .before .before .before .before .before .before .before .loop-test .taken) _ _ _ (place-read (now (c .before .before .before .before .before .before .before .before .before .before .before .before .args .s)) _ _ _ (ap counted (sym (c .before .before .before .before .before .len .given .1)) ∙ c .before .before .before .before .before .before .before .string .ensures))) _ _ (c .before .before .put-two .ensures .1) (c .before .before .put-two .ensures .0)
+loop-again c =
+    let c4 = c .before .before .before .before in
+    let c8 = c4 .before .before .before .before in
+    let c12 = c8 .before .before .before .before in
+    let a = c12 .args in
+    let l = c8 .before .loop in
+    row-stored _ _ _ _ _ (l .here .at ∷ c4 .before .len .given .0 .0 ∷ []) _ _ (l .inv) (pair-more text (now (a .s)) _ _ (c8 .loop-test .taken) _ _ _ (place-read (now (a .s)) _ _ _ (ap counted (sym (c4 .before .len .given .1)) ∙ c4 .before .before .before .string .ensures))) _ _ (c .before .before .put-two .ensures .1) (c .before .before .put-two .ensures .0)
 
 enum-told : tie.Need-enum-told Inv-loop μ-loop
 enum-told c = search needs
@@ -48,13 +59,16 @@ same-length : tie.Need-same-length Inv-loop μ-loop
 same-length c = c .before .before .before .before .loop .inv .long
 
 returns : tie.Need-returns Inv-loop μ-loop
-returns c = storing-ends _ _ _ _ _ _ (c .before .before .before .before .loop .inv) (pair-stops place (now (c .before .before .before .before .before .before .before .args .s)) _ _ _ (place-stops (now (c .before .before .before .before .before .before .before .args .s)) _ _ (ap counted (sym (c .enum-told .given .1)) ∙ c .before .before .string .ensures)))
+returns c =
+    let c4 = c .before .before .before .before in
+    let a = c4 .before .before .before .args in
+    storing-ends _ _ _ _ _ _ (c4 .loop .inv) (pair-stops text (now (a .s)) _ _ _ (place-stops (now (a .s)) _ _ (ap counted (sym (c .enum-told .given .1)) ∙ c .before .before .string .ensures)))
 
 same-length-2 : tie.Need-same-length-2 Inv-loop μ-loop
 same-length-2 c = c .before .loop .inv .long
 
 returns-2 : tie.Need-returns-2 Inv-loop μ-loop
-returns-2 c = storing-ends _ _ _ _ _ _ (c .before .loop .inv) (pair-none place (now (c .before .before .before .before .args .s)) _ _ (c .loop-test .left))
+returns-2 c = storing-ends _ _ _ _ _ _ (c .before .loop .inv) (pair-none text (now (c .before .before .before .before .args .s)) _ _ (c .loop-test .left))
 
 pub fill-names-spec : {M : Type 1} → statement M
 fill-names-spec =

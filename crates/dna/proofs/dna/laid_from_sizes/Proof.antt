@@ -26,21 +26,30 @@ enum-known-structs : tie.Need-enum-known-structs
 enum-known-structs c = search needs
 
 returns : tie.Need-returns
-returns c = sizes-stopped (c .before .before .before .before .before .args .e) (now (c .before .before .before .before .before .args .s)) _ (spanOf (now (c .before .before .before .before .before .args .s)) (c .before .before .before .before .before .args .names)) (spanOf (now (c .before .before .before .before .before .args .s)) (c .before .before .before .before .before .args .types)) _ (c .before .before .before .before .before .pre .1) _ (rw (c .before .f .given .1) at (c .before .before .before .sizes .ensures))
+returns c =
+    let c4 = c .before .before .before .before in
+    let a = c4 .before .args in
+    sizes-stopped (a .e) (now (a .s)) _ (spanOf (now (a .s)) (a .names)) (spanOf (now (a .s)) (a .types)) _ (c4 .before .pre .1) _ (rw (c .before .f .given .1) at (c .before .before .before .sizes .ensures))
 
 returns-2 : tie.Need-returns-2
 returns-2 c =
-    let z = (rw (c .before .before .before .before .before .sizesat .given .1) at (c .before .before .before .before .before .before .before .sizes .ensures)) in
-    sizes-found (c .before .before .before .before .before .before .before .before .before .args .e) (now (c .before .before .before .before .before .before .before .before .before .args .s)) _ (spanOf (now (c .before .before .before .before .before .before .before .before .before .args .s)) (c .before .before .before .before .before .before .before .before .before .args .names)) (spanOf (now (c .before .before .before .before .before .before .before .before .before .args .s)) (c .before .before .before .before .before .before .before .before .before .args .types)) _ (c .before .before .before .before .before .before .before .before .before .pre .1) _ _ (z .0) ∙ structs-stopped (c .before .before .before .before .before .before .before .before .before .args .e) (now (c .before .before .before .before .before .before .before .before .before .args .s)) _ (spanOf (now (c .before .before .before .before .before .before .before .before .before .args .s)) (c .before .before .before .before .before .before .before .before .before .args .names)) (spanOf (now (c .before .before .before .before .before .before .before .before .before .args .s)) (c .before .before .before .before .before .before .before .before .before .args .types)) _ _ (rw (c .before .f2 .given .1) at (c .before .before .before .struct-list .ensures))
+    let c4 = c .before .before .before .before in
+    let c8 = c4 .before .before .before .before in
+    let a = c8 .before .args in
+    let z = (rw (c4 .before .sizesat .given .1) at (c4 .before .before .before .sizes .ensures)) in
+    sizes-found (a .e) (now (a .s)) _ (spanOf (now (a .s)) (a .names)) (spanOf (now (a .s)) (a .types)) _ (c8 .before .pre .1) _ _ (z .0) ∙ structs-stopped (a .e) (now (a .s)) _ (spanOf (now (a .s)) (a .names)) (spanOf (now (a .s)) (a .types)) _ _ (rw (c .before .f2 .given .1) at (c .before .before .before .struct-list .ensures))
 
 returns-3 : tie.Need-returns-3
 returns-3 c =
-    let z = (rw (c .before .before .before .before .before .sizesat .given .1) at (c .before .before .before .before .before .before .before .sizes .ensures)) in
+    let c4 = c .before .before .before .before in
+    let c8 = c4 .before .before .before .before in
+    let a = c8 .before .args in
+    let z = (rw (c4 .before .sizesat .given .1) at (c4 .before .before .before .sizes .ensures)) in
     let w = (rw (c .before .structs .given .1) at (c .before .before .before .struct-list .ensures)) in
     record {
-      found = sizes-found (c .before .before .before .before .before .before .before .before .before .args .e) (now (c .before .before .before .before .before .before .before .before .before .args .s)) _ (spanOf (now (c .before .before .before .before .before .before .before .before .before .args .s)) (c .before .before .before .before .before .before .before .before .before .args .names)) (spanOf (now (c .before .before .before .before .before .before .before .before .before .args .s)) (c .before .before .before .before .before .before .before .before .before .args .types)) _ (c .before .before .before .before .before .before .before .before .before .pre .1) _ _ (z .0) ∙ structs-found (c .before .before .before .before .before .before .before .before .before .args .e) (now (c .before .before .before .before .before .before .before .before .before .args .s)) _ (spanOf (now (c .before .before .before .before .before .before .before .before .before .args .s)) (c .before .before .before .before .before .before .before .before .before .args .names)) (spanOf (now (c .before .before .before .before .before .before .before .before .before .args .s)) (c .before .before .before .before .before .before .before .before .before .args .types)) _ _ _ (w .0);
-      names-are = c .before .before .before .before .before .before .before .before .before .pre .0;
-      types-are = c .before .before .before .before .before .before .before .before .before .pre .1;
+      found = sizes-found (a .e) (now (a .s)) _ (spanOf (now (a .s)) (a .names)) (spanOf (now (a .s)) (a .types)) _ (c8 .before .pre .1) _ _ (z .0) ∙ structs-found (a .e) (now (a .s)) _ (spanOf (now (a .s)) (a .names)) (spanOf (now (a .s)) (a .types)) _ _ _ (w .0);
+      names-are = c8 .before .pre .0;
+      types-are = c8 .before .pre .1;
       sizes-are = z .1;
       structs-are = w .1;
       fields-are = w .2;

@@ -22,10 +22,15 @@ laid-from-sizes-requires : tie.Need-laid-from-sizes-requires
 laid-from-sizes-requires c κs = (c .before .before .before .before .before .before .pre, (rw (c .before .count .given .1) at (c .before .before .before .list .ensures)) .1)
 
 returns : tie.Need-returns
-returns c = types-stopped (c .before .before .before .before .before .before .args .e) (now (c .before .before .before .before .before .before .args .s)) _ (spanOf (now (c .before .before .before .before .before .before .args .s)) (c .before .before .before .before .before .before .args .names)) _ (rw (c .before .f .given .1) at (c .before .before .before .list .ensures))
+returns c =
+    let a = c .before .before .before .before .before .before .args in
+    types-stopped (a .e) (now (a .s)) _ (spanOf (now (a .s)) (a .names)) _ (rw (c .before .f .given .1) at (c .before .before .before .list .ensures))
 
 returns-2 : tie.Need-returns-2
-returns-2 c = rw (types-found (c .before .before .before .before .before .before .before .args .e) (now (c .before .before .before .before .before .before .before .args .s)) _ (spanOf (now (c .before .before .before .before .before .before .before .args .s)) (c .before .before .before .before .before .before .before .args .names)) _ _ ((rw (c .before .before .count .given .1) at (c .before .before .before .before .list .ensures)) .0)) (c .laid-from-sizes .ensures)
+returns-2 c =
+    let c4 = c .before .before .before .before in
+    let a = c4 .before .before .before .args in
+    rw (types-found (a .e) (now (a .s)) _ (spanOf (now (a .s)) (a .names)) _ _ ((rw (c .before .before .count .given .1) at (c4 .list .ensures)) .0)) (c .laid-from-sizes .ensures)
 
 pub laid-from-types-spec : {M : Type 1} → statement M
 laid-from-types-spec =

@@ -2,9 +2,9 @@
 use mathlib.Core.Path.{sym, _∙_, ap}
 use borrow.Author.Needs.{needs}
 use denote.Ref.{now}
-use Rattle.primitive.specs.Cursor.{numbered}
-use Rattle.primitive.specs.Number.{number}
-use Rattle.primitive.proofs.Onward.{number-on, number-stops}
+use Rattle.bytes.specs.Cursor.{numbered}
+use Rattle.bytes.specs.Number.{number}
+use Rattle.bytes.proofs.Onward.{number-on, number-stops}
 use Rattle.dna.specs.Catalogue.{strings}
 use Rattle.dna.proofs.dna.list_counted.Statement.{statement}
 use Rattle.dna.proofs.dna.list_counted.Tie as tie
@@ -22,10 +22,14 @@ list-strings-requires : tie.Need-list-strings-requires
 list-strings-requires c κs = search needs
 
 returns : tie.Need-returns
-returns c = number-stops (now (c .before .before .before .before .before .args .s)) _ (c .before .before .before .before .before .args .e) 4 strings _ (ap numbered (sym (c .before .f .given .1)) ∙ c .before .before .before .number .ensures)
+returns c =
+    let a = c .before .before .before .before .before .args in
+    number-stops (now (a .s)) _ (a .e) 4 strings _ (ap numbered (sym (c .before .f .given .1)) ∙ c .before .before .before .number .ensures)
 
 returns-2 : tie.Need-returns-2
-returns-2 c = rw (number-on (now (c .before .before .before .before .before .before .args .s)) _ _ 4 strings _ _ (ap numbered (sym (c .before .before .n .given .1)) ∙ c .before .before .before .before .number .ensures)) (c .list-strings .ensures)
+returns-2 c =
+    let c4 = c .before .before .before .before in
+    rw (number-on (now (c4 .before .before .args .s)) _ _ 4 strings _ _ (ap numbered (sym (c .before .before .n .given .1)) ∙ c4 .number .ensures)) (c .list-strings .ensures)
 
 pub list-counted-spec : {M : Type 1} → statement M
 list-counted-spec =

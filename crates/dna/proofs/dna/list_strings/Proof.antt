@@ -3,8 +3,8 @@ use mathlib.Core.Path.{sym, _∙_, ap}
 use native.Mathlib.Omega.{arith}
 use borrow.Author.Needs.{needs}
 use denote.Ref.{now}
-use Rattle.primitive.specs.Cursor.{moved}
-use Rattle.dna.specs.Catalogue.{place, strings}
+use Rattle.bytes.specs.Cursor.{moved}
+use Rattle.dna.specs.Catalogue.{text, strings}
 use Rattle.dna.proofs.Counting.{all-many, all-after, all-within, strings-stop, padding-stops, padding-read}
 use Rattle.dna.proofs.dna.list_strings.Statement.{statement}
 use Rattle.dna.proofs.dna.list_strings.Tie as tie
@@ -19,12 +19,15 @@ enum-known-end : tie.Need-enum-known-end
 enum-known-end c = search needs
 
 sub-padding : tie.Need-sub-padding
-sub-padding c = all-after place (now (c .before .before .before .before .before .before .args .s)) _ _ _ (ap moved (sym (c .before .before .end .given .1)) ∙ c .before .before .before .before .strings .ensures)
+sub-padding c =
+    let c4 = c .before .before .before .before in
+    all-after text (now (c4 .before .before .args .s)) _ _ _ (ap moved (sym (c .before .before .end .given .1)) ∙ c4 .strings .ensures)
 
 padding-requires : tie.Need-padding-requires
 padding-requires c κs =
-    let h = all-within place (now (c .before .before .before .before .before .before .args .s)) _ _ _ (ap moved (sym (c .before .before .end .given .1)) ∙ c .before .before .before .before .strings .ensures) in
-    omega (arith, c .before .before .before .before .before .before .good .0 .1)
+    let c4 = c .before .before .before .before in
+    let h = all-within text (now (c4 .before .before .args .s)) _ _ _ (ap moved (sym (c .before .before .end .given .1)) ∙ c4 .strings .ensures) in
+    omega (arith, c4 .before .before .good .0 .1)
 
 skip-requires : tie.Need-skip-requires
 skip-requires c κs = search needs
@@ -39,10 +42,17 @@ returns : tie.Need-returns
 returns c = strings-stop (now (c .before .before .before .before .before .args .s)) _ _ _ (ap moved (sym (c .before .f .given .1)) ∙ c .before .before .before .strings .ensures)
 
 returns-2 : tie.Need-returns-2
-returns-2 c = padding-stops (now (c .before .before .before .before .before .before .before .before .before .before .before .args .s)) _ _ _ (ap moved (sym (c .before .before .before .before .before .before .before .end .given .1)) ∙ c .before .before .before .before .before .before .before .before .before .strings .ensures) _ (c .before .before .before .before .padding .ensures) _ (ap moved (sym (c .before .f2 .given .1)) ∙ c .before .before .before .skip .ensures)
+returns-2 c =
+    let c4 = c .before .before .before .before in
+    let c8 = c4 .before .before .before .before in
+    padding-stops (now (c8 .before .before .before .args .s)) _ _ _ (ap moved (sym (c4 .before .before .before .end .given .1)) ∙ c8 .before .strings .ensures) _ (c4 .padding .ensures) _ (ap moved (sym (c .before .f2 .given .1)) ∙ c .before .before .before .skip .ensures)
 
 returns-3 : tie.Need-returns-3
-returns-3 c = (padding-read (now (c .before .before .before .before .before .before .before .before .before .before .before .args .s)) _ _ _ (ap moved (sym (c .before .before .before .before .before .before .before .end .given .1)) ∙ c .before .before .before .before .before .before .before .before .before .strings .ensures) _ (c .before .before .before .before .padding .ensures) _ (ap moved (sym (c .before .next .given .1)) ∙ c .before .before .before .skip .ensures), all-many place (now (c .before .before .before .before .before .before .before .before .before .before .before .args .s)) _ _ _ (ap moved (sym (c .before .before .before .before .before .before .before .end .given .1)) ∙ c .before .before .before .before .before .before .before .before .before .strings .ensures))
+returns-3 c =
+    let c4 = c .before .before .before .before in
+    let c8 = c4 .before .before .before .before in
+    let a = c8 .before .before .before .args in
+    (padding-read (now (a .s)) _ _ _ (ap moved (sym (c4 .before .before .before .end .given .1)) ∙ c8 .before .strings .ensures) _ (c4 .padding .ensures) _ (ap moved (sym (c .before .next .given .1)) ∙ c .before .before .before .skip .ensures), all-many text (now (a .s)) _ _ _ (ap moved (sym (c4 .before .before .before .end .given .1)) ∙ c8 .before .strings .ensures))
 
 pub list-strings-spec : {M : Type 1} → statement M
 list-strings-spec =

@@ -2,7 +2,7 @@
 use mathlib.Core.Path.{sym, _∙_, ap}
 use borrow.Author.Needs.{needs}
 use denote.Ref.{now}
-use Rattle.primitive.specs.Cursor.{moved, numbered}
+use Rattle.bytes.specs.Cursor.{moved, numbered}
 use Rattle.dna.proofs.Counting.{struct-stops, struct-stops-later, struct-stops-fields, struct-headed}
 use Rattle.dna.proofs.Shorts.{struct-ends, struct-within}
 use Rattle.dna.proofs.dna.one_struct.Statement.{statement}
@@ -36,16 +36,32 @@ enum-known-last : tie.Need-enum-known-last
 enum-known-last c = search needs
 
 returns : tie.Need-returns
-returns c = struct-stops (c .before .before .before .before .before .args .e) (now (c .before .before .before .before .before .args .s)) (c .before .before .before .before .before .args .c .at) _ (ap numbered (sym (c .before .f .given .1)) ∙ c .before .before .before .number .ensures)
+returns c =
+    let a = c .before .before .before .before .before .args in
+    struct-stops (a .e) (now (a .s)) (a .c .at) _ (ap numbered (sym (c .before .f .given .1)) ∙ c .before .before .before .number .ensures)
 
 returns-2 : tie.Need-returns-2
-returns-2 c = struct-stops-later (c .before .before .before .before .before .before .before .before .before .args .e) (now (c .before .before .before .before .before .before .before .before .before .args .s)) (c .before .before .before .before .before .before .before .before .before .args .c .at) _ _ (ap numbered (sym (c .before .before .before .before .before .kind .given .1)) ∙ c .before .before .before .before .before .before .before .number .ensures) _ (ap numbered (sym (c .before .f2 .given .1)) ∙ c .before .before .before .number2 .ensures)
+returns-2 c =
+    let c4 = c .before .before .before .before in
+    let c8 = c4 .before .before .before .before in
+    let a = c8 .before .args in
+    struct-stops-later (a .e) (now (a .s)) (a .c .at) _ _ (ap numbered (sym (c4 .before .kind .given .1)) ∙ c4 .before .before .before .number .ensures) _ (ap numbered (sym (c .before .f2 .given .1)) ∙ c .before .before .before .number2 .ensures)
 
 returns-3 : tie.Need-returns-3
-returns-3 c = struct-stops-fields (c .before .before .before .before .before .before .before .before .before .before .before .before .before .args .e) (now (c .before .before .before .before .before .before .before .before .before .before .before .before .before .args .s)) (c .before .before .before .before .before .before .before .before .before .before .before .before .before .args .c .at) _ _ (ap numbered (sym (c .before .before .before .before .before .before .before .before .before .kind .given .1)) ∙ c .before .before .before .before .before .before .before .before .before .before .before .number .ensures) _ _ (ap numbered (sym (c .before .before .before .before .before .n .given .1)) ∙ c .before .before .before .before .before .before .before .number2 .ensures) _ (ap moved (sym (c .before .f3 .given .1)) ∙ c .before .before .before .fields-past .ensures (c .before .before .before .before .before .before .before .before .before .before .before .before .before .args .e))
+returns-3 c =
+    let c4 = c .before .before .before .before in
+    let c8 = c4 .before .before .before .before in
+    let c12 = c8 .before .before .before .before in
+    let a = c12 .before .args in
+    struct-stops-fields (a .e) (now (a .s)) (a .c .at) _ _ (ap numbered (sym (c8 .before .kind .given .1)) ∙ c8 .before .before .before .number .ensures) _ _ (ap numbered (sym (c4 .before .n .given .1)) ∙ c4 .before .before .before .number2 .ensures) _ (ap moved (sym (c .before .f3 .given .1)) ∙ c .before .before .before .fields-past .ensures (a .e))
 
 returns-4 : tie.Need-returns-4
-returns-4 c = (struct-headed (c .before .before .before .before .before .before .before .before .before .before .before .before .before .args .e) (now (c .before .before .before .before .before .before .before .before .before .before .before .before .before .args .s)) (c .before .before .before .before .before .before .before .before .before .before .before .before .before .args .c .at) _ _ _ _ _ (ap numbered (sym (c .before .before .before .before .before .before .before .before .before .kind .given .1)) ∙ c .before .before .before .before .before .before .before .before .before .before .before .number .ensures) (ap numbered (sym (c .before .before .before .before .before .n .given .1)) ∙ c .before .before .before .before .before .before .before .number2 .ensures) (ap moved (sym (c .before .last .given .1)) ∙ c .before .before .before .fields-past .ensures (c .before .before .before .before .before .before .before .before .before .before .before .before .before .args .e)), struct-ends (c .before .before .before .before .before .before .before .before .before .before .before .before .before .args .e) (now (c .before .before .before .before .before .before .before .before .before .before .before .before .before .args .s)) (c .before .before .before .before .before .before .before .before .before .before .before .before .before .args .c .at) _ _ _ _ _ (ap numbered (sym (c .before .before .before .before .before .before .before .before .before .kind .given .1)) ∙ c .before .before .before .before .before .before .before .before .before .before .before .number .ensures) (ap numbered (sym (c .before .before .before .before .before .n .given .1)) ∙ c .before .before .before .before .before .before .before .number2 .ensures) (ap moved (sym (c .before .last .given .1)) ∙ c .before .before .before .fields-past .ensures (c .before .before .before .before .before .before .before .before .before .before .before .before .before .args .e)), struct-within (c .before .before .before .before .before .before .before .before .before .before .before .before .before .args .e) (now (c .before .before .before .before .before .before .before .before .before .before .before .before .before .args .s)) (c .before .before .before .before .before .before .before .before .before .before .before .before .before .args .c .at) _ _ _ _ _ (ap numbered (sym (c .before .before .before .before .before .before .before .before .before .kind .given .1)) ∙ c .before .before .before .before .before .before .before .before .before .before .before .number .ensures) (ap numbered (sym (c .before .before .before .before .before .n .given .1)) ∙ c .before .before .before .before .before .before .before .number2 .ensures) (ap moved (sym (c .before .last .given .1)) ∙ c .before .before .before .fields-past .ensures (c .before .before .before .before .before .before .before .before .before .before .before .before .before .args .e)))
+returns-4 c =
+    let c4 = c .before .before .before .before in
+    let c8 = c4 .before .before .before .before in
+    let c12 = c8 .before .before .before .before in
+    let a = c12 .before .args in
+    (struct-headed (a .e) (now (a .s)) (a .c .at) _ _ _ _ _ (ap numbered (sym (c8 .before .kind .given .1)) ∙ c8 .before .before .before .number .ensures) (ap numbered (sym (c4 .before .n .given .1)) ∙ c4 .before .before .before .number2 .ensures) (ap moved (sym (c .before .last .given .1)) ∙ c .before .before .before .fields-past .ensures (a .e)), struct-ends (a .e) (now (a .s)) (a .c .at) _ _ _ _ _ (ap numbered (sym (c8 .before .kind .given .1)) ∙ c8 .before .before .before .number .ensures) (ap numbered (sym (c4 .before .n .given .1)) ∙ c4 .before .before .before .number2 .ensures) (ap moved (sym (c .before .last .given .1)) ∙ c .before .before .before .fields-past .ensures (a .e)), struct-within (a .e) (now (a .s)) (a .c .at) _ _ _ _ _ (ap numbered (sym (c8 .before .kind .given .1)) ∙ c8 .before .before .before .number .ensures) (ap numbered (sym (c4 .before .n .given .1)) ∙ c4 .before .before .before .number2 .ensures) (ap moved (sym (c .before .last .given .1)) ∙ c .before .before .before .fields-past .ensures (a .e)))
 
 pub one-struct-spec : {M : Type 1} → statement M
 one-struct-spec =

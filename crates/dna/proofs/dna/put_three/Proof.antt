@@ -4,7 +4,7 @@ use mathlib.Core.Path.{_≡_}
 use mathlib.Core.Path.{refl}
 use native.Mathlib.Omega.{arith}
 use lib.ListN.{length-set}
-use Rattle.primitive.specs.Helpers.{put}
+use Rattle.bytes.specs.Helpers.{put}
 use borrow.Author.Needs.{needs}
 use Rattle.dna.proofs.dna.put_three.Statement.{statement}
 use Rattle.dna.proofs.dna.put_three.Tie as tie

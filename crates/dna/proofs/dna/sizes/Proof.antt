@@ -3,7 +3,7 @@ use mathlib.Core.Path.{sym, _∙_, ap}
 use native.Mathlib.Omega.{arith}
 use borrow.Author.Needs.{needs}
 use denote.Ref.{now}
-use Rattle.primitive.specs.Cursor.{moved}
+use Rattle.bytes.specs.Cursor.{moved}
 use Rattle.dna.specs.Catalogue.{size}
 use Rattle.dna.proofs.Counting.{all-many, all-after, all-within, no-tlen, sizes-stop, sizes-padding-stops, sizes-read}
 use Rattle.dna.proofs.dna.sizes.Statement.{statement}
@@ -31,12 +31,21 @@ enum-known-end : tie.Need-enum-known-end
 enum-known-end c = search needs
 
 sub-padding : tie.Need-sub-padding
-sub-padding c = all-after (size (c .before .before .before .before .before .before .before .before .before .before .before .before .args .e)) (now (c .before .before .before .before .before .before .before .before .before .before .before .before .args .s)) _ _ _ (ap moved (sym (c .before .before .before .end .given .1)) ∙ c .before .before .before .before .before .sizes-past .ensures (c .before .before .before .before .before .before .before .before .before .before .before .before .args .e))
+sub-padding c =
+    let c4 = c .before .before .before .before in
+    let c8 = c4 .before .before .before .before in
+    let c12 = c8 .before .before .before .before in
+    let a = c12 .args in
+    all-after (size (a .e)) (now (a .s)) _ _ _ (ap moved (sym (c .before .before .before .end .given .1)) ∙ c4 .before .sizes-past .ensures (a .e))
 
 padding-requires : tie.Need-padding-requires
 padding-requires c κs =
-    let h = all-within (size (c .before .before .before .before .before .before .before .before .before .before .before .before .args .e)) (now (c .before .before .before .before .before .before .before .before .before .before .before .before .args .s)) _ _ _ (ap moved (sym (c .before .before .before .end .given .1)) ∙ c .before .before .before .before .before .sizes-past .ensures (c .before .before .before .before .before .before .before .before .before .before .before .before .args .e)) in
-    omega (arith, c .before .before .before .before .before .before .before .before .before .before .before .before .good)
+    let c4 = c .before .before .before .before in
+    let c8 = c4 .before .before .before .before in
+    let c12 = c8 .before .before .before .before in
+    let a = c12 .args in
+    let h = all-within (size (a .e)) (now (a .s)) _ _ _ (ap moved (sym (c .before .before .before .end .given .1)) ∙ c4 .before .sizes-past .ensures (a .e)) in
+    omega (arith, c12 .good)
 
 skip-requires : tie.Need-skip-requires
 skip-requires c κs = search needs
@@ -48,16 +57,34 @@ enum-known-next : tie.Need-enum-known-next
 enum-known-next c = search needs
 
 returns : tie.Need-returns
-returns c = no-tlen (c .before .before .before .before .before .before .args .e) (now (c .before .before .before .before .before .before .args .s)) _ _ _ (ap moved (sym (c .before .f .given .1)) ∙ c .before .before .before .mark .ensures)
+returns c =
+    let a = c .before .before .before .before .before .before .args in
+    no-tlen (a .e) (now (a .s)) _ _ _ (ap moved (sym (c .before .f .given .1)) ∙ c .before .before .before .mark .ensures)
 
 returns-2 : tie.Need-returns-2
-returns-2 c = sizes-stop (c .before .before .before .before .before .before .before .before .before .before .args .e) (now (c .before .before .before .before .before .before .before .before .before .before .args .s)) _ _ _ (ap moved (sym (c .before .before .before .before .before .from .given .1)) ∙ c .before .before .before .before .before .before .before .mark .ensures) _ (ap moved (sym (c .before .f2 .given .1)) ∙ c .before .before .before .sizes-past .ensures (c .before .before .before .before .before .before .before .before .before .before .args .e))
+returns-2 c =
+    let c4 = c .before .before .before .before in
+    let c8 = c4 .before .before .before .before in
+    let a = c8 .before .before .args in
+    sizes-stop (a .e) (now (a .s)) _ _ _ (ap moved (sym (c4 .before .from .given .1)) ∙ c4 .before .before .before .mark .ensures) _ (ap moved (sym (c .before .f2 .given .1)) ∙ c .before .before .before .sizes-past .ensures (a .e))
 
 returns-3 : tie.Need-returns-3
-returns-3 c = sizes-padding-stops (c .before .before .before .before .before .before .before .before .before .before .before .before .before .before .before .before .before .args .e) (now (c .before .before .before .before .before .before .before .before .before .before .before .before .before .before .before .before .before .args .s)) _ _ _ (ap moved (sym (c .before .before .before .before .before .before .before .before .before .before .before .before .from .given .1)) ∙ c .before .before .before .before .before .before .before .before .before .before .before .before .before .before .mark .ensures) _ (ap moved (sym (c .before .before .before .before .before .before .before .before .end .given .1)) ∙ c .before .before .before .before .before .before .before .before .before .before .sizes-past .ensures (c .before .before .before .before .before .before .before .before .before .before .before .before .before .before .before .before .before .args .e)) _ (c .before .before .before .before .padding .ensures) _ (ap moved (sym (c .before .f3 .given .1)) ∙ c .before .before .before .skip .ensures)
+returns-3 c =
+    let c4 = c .before .before .before .before in
+    let c8 = c4 .before .before .before .before in
+    let c12 = c8 .before .before .before .before in
+    let c16 = c12 .before .before .before .before in
+    let a = c16 .before .args in
+    sizes-padding-stops (a .e) (now (a .s)) _ _ _ (ap moved (sym (c12 .from .given .1)) ∙ c12 .before .before .mark .ensures) _ (ap moved (sym (c8 .end .given .1)) ∙ c8 .before .before .sizes-past .ensures (a .e)) _ (c4 .padding .ensures) _ (ap moved (sym (c .before .f3 .given .1)) ∙ c .before .before .before .skip .ensures)
 
 returns-4 : tie.Need-returns-4
-returns-4 c = (sizes-read (c .before .before .before .before .before .before .before .before .before .before .before .before .before .before .before .before .before .args .e) (now (c .before .before .before .before .before .before .before .before .before .before .before .before .before .before .before .before .before .args .s)) _ _ _ (ap moved (sym (c .before .before .before .before .before .before .before .before .before .before .before .before .from .given .1)) ∙ c .before .before .before .before .before .before .before .before .before .before .before .before .before .before .mark .ensures) _ (ap moved (sym (c .before .before .before .before .before .before .before .before .end .given .1)) ∙ c .before .before .before .before .before .before .before .before .before .before .sizes-past .ensures (c .before .before .before .before .before .before .before .before .before .before .before .before .before .before .before .before .before .args .e)) _ (c .before .before .before .before .padding .ensures) _ (ap moved (sym (c .before .next .given .1)) ∙ c .before .before .before .skip .ensures), all-many (size (c .before .before .before .before .before .before .before .before .before .before .before .before .before .before .before .before .before .args .e)) (now (c .before .before .before .before .before .before .before .before .before .before .before .before .before .before .before .before .before .args .s)) _ _ _ (ap moved (sym (c .before .before .before .before .before .before .before .before .end .given .1)) ∙ c .before .before .before .before .before .before .before .before .before .before .sizes-past .ensures (c .before .before .before .before .before .before .before .before .before .before .before .before .before .before .before .before .before .args .e)))
+returns-4 c =
+    let c4 = c .before .before .before .before in
+    let c8 = c4 .before .before .before .before in
+    let c12 = c8 .before .before .before .before in
+    let c16 = c12 .before .before .before .before in
+    let a = c16 .before .args in
+    (sizes-read (a .e) (now (a .s)) _ _ _ (ap moved (sym (c12 .from .given .1)) ∙ c12 .before .before .mark .ensures) _ (ap moved (sym (c8 .end .given .1)) ∙ c8 .before .before .sizes-past .ensures (a .e)) _ (c4 .padding .ensures) _ (ap moved (sym (c .before .next .given .1)) ∙ c .before .before .before .skip .ensures), all-many (size (a .e)) (now (a .s)) _ _ _ (ap moved (sym (c8 .end .given .1)) ∙ c8 .before .before .sizes-past .ensures (a .e)))
 
 pub sizes-spec : {M : Type 1} → statement M
 sizes-spec =

@@ -3,16 +3,16 @@ use mathlib.Core.Path.{_≡_, refl, sym, _∙_, ap}
 use native.Mathlib.Omega.{arith}
 use borrow.Author.Needs.{needs}
 use denote.Ref.{now}
-use Rattle.primitive.specs.Cursor.{counted}
-use Rattle.primitive.specs.Helpers.{past}
-use Rattle.primitive.specs.Reader.{run, times}
-use Rattle.dna.specs.Catalogue.{place}
+use Rattle.bytes.specs.Cursor.{counted}
+use Rattle.bytes.specs.Helpers.{past}
+use Rattle.bytes.specs.Reader.{run, times}
+use Rattle.dna.specs.Catalogue.{text}
 use Rattle.dna.proofs.Counting.{place-read, place-stops, turn, turn-stops, turn-last}
 use Rattle.dna.proofs.dna.strings.Statement.{statement}
 use Rattle.dna.proofs.dna.strings.Tie as tie
 
 abbrev Inv-loop : tie.InvT-loop
-Inv-loop s n here₀ left₀ here left = past (run (times n place) s (here₀ .at)) ≡ past (run (times left place) s (here .at))
+Inv-loop s n here₀ left₀ here left = past (run (times n text) s (here₀ .at)) ≡ past (run (times left text) s (here .at))
 
 abbrev μ-loop : tie.MeasureT-loop
 μ-loop s n here₀ left₀ here left = left
@@ -33,16 +33,22 @@ loop-less : tie.Need-loop-less Inv-loop μ-loop
 loop-less c = omega arith
 
 loop-again : tie.Need-loop-again Inv-loop μ-loop
-loop-again c = c .before .before .before .before .before .loop .inv ∙ turn place (now (c .before .before .before .before .before .before .before .args .s)) _ _ (c .before .before .before .before .loop-test .taken) _ _ (place-read (now (c .before .before .before .before .before .before .before .args .s)) _ _ _ (ap counted (sym (c .before .next .given .1)) ∙ c .before .before .before .string .ensures))
+loop-again c =
+    let c4 = c .before .before .before .before in
+    let a = c4 .before .before .before .args in
+    c4 .before .loop .inv ∙ turn text (now (a .s)) _ _ (c4 .loop-test .taken) _ _ (place-read (now (a .s)) _ _ _ (ap counted (sym (c .before .next .given .1)) ∙ c .before .before .before .string .ensures))
 
 enum-known-f : tie.Need-enum-known-f Inv-loop μ-loop
 enum-known-f c = search needs
 
 returns : tie.Need-returns Inv-loop μ-loop
-returns c = turn-stops place (now (c .before .before .before .before .before .before .before .args .s)) _ _ (c .before .before .before .before .loop-test .taken) _ (place-stops (now (c .before .before .before .before .before .before .before .args .s)) _ _ (ap counted (sym (c .before .f .given .1)) ∙ c .before .before .before .string .ensures)) ∙ sym (c .before .before .before .before .before .loop .inv)
+returns c =
+    let c4 = c .before .before .before .before in
+    let a = c4 .before .before .before .args in
+    turn-stops text (now (a .s)) _ _ (c4 .loop-test .taken) _ (place-stops (now (a .s)) _ _ (ap counted (sym (c .before .f .given .1)) ∙ c .before .before .before .string .ensures)) ∙ sym (c4 .before .loop .inv)
 
 returns-2 : tie.Need-returns-2 Inv-loop μ-loop
-returns-2 c = turn-last place (now (c .before .before .before .args .s)) _ _ (c .loop-test .left) ∙ sym (c .before .loop .inv)
+returns-2 c = turn-last text (now (c .before .before .before .args .s)) _ _ (c .loop-test .left) ∙ sym (c .before .loop .inv)
 
 pub strings-spec : {M : Type 1} → statement M
 strings-spec =

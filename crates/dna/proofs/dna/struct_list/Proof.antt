@@ -2,7 +2,7 @@
 use mathlib.Core.Path.{sym, _∙_, ap}
 use borrow.Author.Needs.{needs}
 use denote.Ref.{now}
-use Rattle.primitive.specs.Cursor.{moved, numbered}
+use Rattle.bytes.specs.Cursor.{moved, numbered}
 use Rattle.dna.specs.Passes.{structTotal}
 use Rattle.dna.proofs.Counting.{no-strc, no-struct-count, structs-stop, structs-read}
 use Rattle.dna.proofs.dna.struct_list.Statement.{statement}
@@ -39,16 +39,32 @@ enum-known-fields : tie.Need-enum-known-fields
 enum-known-fields c = search needs
 
 returns : tie.Need-returns
-returns c = no-strc (c .before .before .before .before .before .before .args .e) (now (c .before .before .before .before .before .before .args .s)) _ _ (ap moved (sym (c .before .f .given .1)) ∙ c .before .before .before .mark .ensures)
+returns c =
+    let a = c .before .before .before .before .before .before .args in
+    no-strc (a .e) (now (a .s)) _ _ (ap moved (sym (c .before .f .given .1)) ∙ c .before .before .before .mark .ensures)
 
 returns-2 : tie.Need-returns-2
-returns-2 c = no-struct-count (c .before .before .before .before .before .before .before .before .before .before .args .e) (now (c .before .before .before .before .before .before .before .before .before .before .args .s)) _ _ (ap moved (sym (c .before .before .before .before .before .next .given .1)) ∙ c .before .before .before .before .before .before .before .mark .ensures) _ (ap numbered (sym (c .before .f2 .given .1)) ∙ c .before .before .before .number .ensures)
+returns-2 c =
+    let c4 = c .before .before .before .before in
+    let c8 = c4 .before .before .before .before in
+    let a = c8 .before .before .args in
+    no-struct-count (a .e) (now (a .s)) _ _ (ap moved (sym (c4 .before .next .given .1)) ∙ c4 .before .before .before .mark .ensures) _ (ap numbered (sym (c .before .f2 .given .1)) ∙ c .before .before .before .number .ensures)
 
 returns-3 : tie.Need-returns-3
-returns-3 c = structs-stop (c .before .before .before .before .before .before .before .before .before .before .before .before .before .before .args .e) (now (c .before .before .before .before .before .before .before .before .before .before .before .before .before .before .args .s)) _ _ (ap moved (sym (c .before .before .before .before .before .before .before .before .before .next .given .1)) ∙ c .before .before .before .before .before .before .before .before .before .before .before .mark .ensures) _ _ (ap numbered (sym (c .before .before .before .before .before .n .given .1)) ∙ c .before .before .before .before .before .before .before .number .ensures) _ (ap structTotal (sym (c .before .f3 .given .1)) ∙ c .before .before .before .structs-past .ensures)
+returns-3 c =
+    let c4 = c .before .before .before .before in
+    let c8 = c4 .before .before .before .before in
+    let c12 = c8 .before .before .before .before in
+    let a = c12 .before .before .args in
+    structs-stop (a .e) (now (a .s)) _ _ (ap moved (sym (c8 .before .next .given .1)) ∙ c8 .before .before .before .mark .ensures) _ _ (ap numbered (sym (c4 .before .n .given .1)) ∙ c4 .before .before .before .number .ensures) _ (ap structTotal (sym (c .before .f3 .given .1)) ∙ c .before .before .before .structs-past .ensures)
 
 returns-4 : tie.Need-returns-4
-returns-4 c = structs-read (c .before .before .before .before .before .before .before .before .before .before .before .before .before .before .args .e) (now (c .before .before .before .before .before .before .before .before .before .before .before .before .before .before .args .s)) _ _ (ap moved (sym (c .before .before .before .before .before .before .before .before .before .next .given .1)) ∙ c .before .before .before .before .before .before .before .before .before .before .before .mark .ensures) _ _ (ap numbered (sym (c .before .before .before .before .before .n .given .1)) ∙ c .before .before .before .before .before .before .before .number .ensures) _ _ (ap structTotal (sym (c .before .fields .given .1)) ∙ c .before .before .before .structs-past .ensures)
+returns-4 c =
+    let c4 = c .before .before .before .before in
+    let c8 = c4 .before .before .before .before in
+    let c12 = c8 .before .before .before .before in
+    let a = c12 .before .before .args in
+    structs-read (a .e) (now (a .s)) _ _ (ap moved (sym (c8 .before .next .given .1)) ∙ c8 .before .before .before .mark .ensures) _ _ (ap numbered (sym (c4 .before .n .given .1)) ∙ c4 .before .before .before .number .ensures) _ _ (ap structTotal (sym (c .before .fields .given .1)) ∙ c .before .before .before .structs-past .ensures)
 
 pub struct-list-spec : {M : Type 1} → statement M
 struct-list-spec =

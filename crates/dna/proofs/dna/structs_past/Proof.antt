@@ -4,7 +4,7 @@ use mathlib.Core.Path.{_≡_, refl, sym, _∙_}
 use native.Mathlib.Omega.{arith}
 use borrow.Author.Needs.{needs}
 use denote.Ref.{now}
-use Rattle.primitive.specs.Reader.{run, times}
+use Rattle.bytes.specs.Reader.{run, times}
 use Rattle.dna.specs.Catalogue.{struct}
 use Rattle.dna.specs.Passes.{totalled}
 use Rattle.dna.proofs.Counting.{total-more, total-stops, total-last}
@@ -40,17 +40,25 @@ loop-less c = omega arith
 
 loop-again : tie.Need-loop-again Inv-loop μ-loop
 loop-again c =
+    let c4 = c .before .before .before .before in
+    let a = c4 .before .before .before .args in
+    let l = c4 .before .loop in
     let w = rw (c .before .count .given .1) at (c .before .before .before .one-struct .ensures) in
-    (c .before .before .before .before .before .loop .inv .0 ∙ total-more (c .before .before .before .before .before .before .before .args .e) (now (c .before .before .before .before .before .before .before .args .s)) _ _ _ (c .before .before .before .before .loop-test .taken) _ _ _ (w .0), omega (arith, w .1, c .before .before .before .before .before .loop .inv .1))
+    (l .inv .0 ∙ total-more (a .e) (now (a .s)) _ _ _ (c4 .loop-test .taken) _ _ _ (w .0), omega (arith, w .1, l .inv .1))
 
 enum-known-f : tie.Need-enum-known-f Inv-loop μ-loop
 enum-known-f c = search needs
 
 returns : tie.Need-returns Inv-loop μ-loop
-returns c = total-stops (c .before .before .before .before .before .before .before .args .e) (now (c .before .before .before .before .before .before .before .args .s)) _ _ _ (c .before .before .before .before .loop-test .taken) _ (rw (c .before .f .given .1) at (c .before .before .before .one-struct .ensures)) ∙ sym (c .before .before .before .before .before .loop .inv .0)
+returns c =
+    let c4 = c .before .before .before .before in
+    let a = c4 .before .before .before .args in
+    total-stops (a .e) (now (a .s)) _ _ _ (c4 .loop-test .taken) _ (rw (c .before .f .given .1) at (c .before .before .before .one-struct .ensures)) ∙ sym (c4 .before .loop .inv .0)
 
 returns-2 : tie.Need-returns-2 Inv-loop μ-loop
-returns-2 c = total-last (c .before .before .before .args .e) (now (c .before .before .before .args .s)) _ _ _ (c .loop-test .left) ∙ sym (c .before .loop .inv .0)
+returns-2 c =
+    let a = c .before .before .before .args in
+    total-last (a .e) (now (a .s)) _ _ _ (c .loop-test .left) ∙ sym (c .before .loop .inv .0)
 
 pub structs-past-spec : {M : Type 1} → statement M
 structs-past-spec =

@@ -2,7 +2,7 @@
 use mathlib.Core.Path.{sym, _∙_, ap}
 use borrow.Author.Needs.{needs}
 use denote.Ref.{now}
-use Rattle.primitive.specs.Cursor.{moved}
+use Rattle.bytes.specs.Cursor.{moved}
 use Rattle.dna.proofs.Layouts.{sdna-stopped, names-stopped, names-found}
 use Rattle.dna.proofs.dna.whole.Statement.{statement}
 use Rattle.dna.proofs.dna.whole.Tie as tie
@@ -35,13 +35,24 @@ laid-from-types-requires : tie.Need-laid-from-types-requires
 laid-from-types-requires c κs = (rw (c .before .count .given .1) at (c .before .before .before .list .ensures)) .1
 
 returns : tie.Need-returns
-returns c = sdna-stopped (c .before .before .before .before .before .before .args .e) (now (c .before .before .before .before .before .before .args .s)) _ _ (ap moved (sym (c .before .f .given .1)) ∙ c .before .before .before .mark .ensures)
+returns c =
+    let a = c .before .before .before .before .before .before .args in
+    sdna-stopped (a .e) (now (a .s)) _ _ (ap moved (sym (c .before .f .given .1)) ∙ c .before .before .before .mark .ensures)
 
 returns-2 : tie.Need-returns-2
-returns-2 c = names-stopped (c .before .before .before .before .before .before .before .before .before .before .before .args .e) (now (c .before .before .before .before .before .before .before .before .before .before .before .args .s)) _ _ (ap moved (sym (c .before .before .before .before .before .before .c .given .1)) ∙ c .before .before .before .before .before .before .before .before .mark .ensures) _ (rw (c .before .f2 .given .1) at (c .before .before .before .list .ensures))
+returns-2 c =
+    let c4 = c .before .before .before .before in
+    let c8 = c4 .before .before .before .before in
+    let a = c8 .before .before .before .args in
+    names-stopped (a .e) (now (a .s)) _ _ (ap moved (sym (c4 .before .before .c .given .1)) ∙ c8 .mark .ensures) _ (rw (c .before .f2 .given .1) at (c .before .before .before .list .ensures))
 
 returns-3 : tie.Need-returns-3
-returns-3 c = rw (names-found (c .before .before .before .before .before .before .before .before .before .before .before .before .args .e) (now (c .before .before .before .before .before .before .before .before .before .before .before .before .args .s)) _ _ (ap moved (sym (c .before .before .before .before .before .before .before .c .given .1)) ∙ c .before .before .before .before .before .before .before .before .before .mark .ensures) _ _ ((rw (c .before .before .count .given .1) at (c .before .before .before .before .list .ensures)) .0)) (c .laid-from-types .ensures)
+returns-3 c =
+    let c4 = c .before .before .before .before in
+    let c8 = c4 .before .before .before .before in
+    let c12 = c8 .before .before .before .before in
+    let a = c12 .args in
+    rw (names-found (a .e) (now (a .s)) _ _ (ap moved (sym (c4 .before .before .before .c .given .1)) ∙ c8 .before .mark .ensures) _ _ ((rw (c .before .before .count .given .1) at (c4 .list .ensures)) .0)) (c .laid-from-types .ensures)
 
 pub whole-spec : {M : Type 1} → statement M
 whole-spec =

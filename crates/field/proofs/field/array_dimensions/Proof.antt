@@ -42,44 +42,54 @@ times-requires c κs = tt
 
 add-count : tie.Need-add-count Inv-loop μ-loop
 add-count c =
-    let l = now (c .before .before .before .before .before .before .before .before .args .l) in
-    let w = span-within (drop (c .before .before .before .before .before .before .loop .at) l) _ _ (group-at l (c .before .before .before .before .before .before .loop .at) _ _ (c .before .before .before .before .one-group .ensures) (c .before .before .d .given .1)) in
-    omega (arith, w .1, length-drop (c .before .before .before .before .before .before .loop .at) l)
+    let c4 = c .before .before .before .before in
+    let c8 = c4 .before .before .before .before in
+    let l = now (c8 .args .l) in
+    let w = span-within (drop (c4 .before .before .loop .at) l) _ _ (group-at l (c4 .before .before .loop .at) _ _ (c4 .one-group .ensures) (c .before .before .d .given .1)) in
+    omega (arith, w .1, length-drop (c4 .before .before .loop .at) l)
 
 add-at : tie.Need-add-at Inv-loop μ-loop
 add-at c =
-    let l = now (c .before .before .before .before .before .before .before .before .args .l) in
-    let w = span-within (drop (c .before .before .before .before .before .before .loop .at) l) _ _ (group-at l (c .before .before .before .before .before .before .loop .at) _ _ (c .before .before .before .before .one-group .ensures) (c .before .before .d .given .1)) in
-    omega (arith, w .1, length-drop (c .before .before .before .before .before .before .loop .at) l)
+    let c4 = c .before .before .before .before in
+    let c8 = c4 .before .before .before .before in
+    let l = now (c8 .args .l) in
+    let w = span-within (drop (c4 .before .before .loop .at) l) _ _ (group-at l (c4 .before .before .loop .at) _ _ (c4 .one-group .ensures) (c .before .before .d .given .1)) in
+    omega (arith, w .1, length-drop (c4 .before .before .loop .at) l)
 
 loop-less : tie.Need-loop-less Inv-loop μ-loop
 loop-less c =
-    let l = now (c .before .before .before .before .before .before .before .before .args .l) in
-    let w = span-within (drop (c .before .before .before .before .before .before .loop .at) l) _ _ (group-at l (c .before .before .before .before .before .before .loop .at) _ _ (c .before .before .before .before .one-group .ensures) (c .before .before .d .given .1)) in
-    omega (arith, w .0, w .1, length-drop (c .before .before .before .before .before .before .loop .at) l)
+    let c4 = c .before .before .before .before in
+    let c8 = c4 .before .before .before .before in
+    let l = now (c8 .args .l) in
+    let w = span-within (drop (c4 .before .before .loop .at) l) _ _ (group-at l (c4 .before .before .loop .at) _ _ (c4 .one-group .ensures) (c .before .before .d .given .1)) in
+    omega (arith, w .0, w .1, length-drop (c4 .before .before .loop .at) l)
 
 loop-again : tie.Need-loop-again Inv-loop μ-loop
 loop-again c =
-    let l = now (c .before .before .before .before .before .before .before .before .args .l) in
-    let g = group-at l (c .before .before .before .before .before .before .loop .at) _ _ (c .before .before .before .before .one-group .ensures) (c .before .before .d .given .1) in
-    let w = span-within (drop (c .before .before .before .before .before .before .loop .at) l) _ _ g in
-    (omega (arith, w .1, length-drop (c .before .before .before .before .before .before .loop .at) l), omega (arith, w .0, w .1), c .before .before .before .before .before .before .loop .inv .2 ∙ finish-is _ _ _ _ _ _ g ∙ rw (drop-drop, c .times .ensures))
+    let c4 = c .before .before .before .before in
+    let c8 = c4 .before .before .before .before in
+    let l = now (c8 .args .l) in
+    let g = group-at l (c4 .before .before .loop .at) _ _ (c4 .one-group .ensures) (c .before .before .d .given .1) in
+    let w = span-within (drop (c4 .before .before .loop .at) l) _ _ g in
+    (omega (arith, w .1, length-drop (c4 .before .before .loop .at) l), omega (arith, w .0, w .1), c4 .before .before .loop .inv .2 ∙ finish-is _ _ _ _ _ _ g ∙ rw (drop-drop, c .times .ensures))
 
 enum-told : tie.Need-enum-told Inv-loop μ-loop
 enum-told c = search needs
 
 returns : tie.Need-returns Inv-loop μ-loop
 returns c =
-    let l = now (c .before .before .before .before .before .before .args .l) in
-    finish-bad _ _ _ _ (group-at l (c .before .before .before .before .loop .at) _ _ (c .before .before .one-group .ensures) (c .enum-told .given .1)) ∙ sym (c .before .before .before .before .loop .inv .2)
+    let c4 = c .before .before .before .before in
+    let l = now (c4 .before .before .args .l) in
+    finish-bad _ _ _ _ (group-at l (c4 .loop .at) _ _ (c .before .before .one-group .ensures) (c .enum-told .given .1)) ∙ sym (c4 .loop .inv .2)
 
 enum-told-2 : tie.Need-enum-told-2 Inv-loop μ-loop
 enum-told-2 c = search needs
 
 returns-2 : tie.Need-returns-2 Inv-loop μ-loop
 returns-2 c =
-    let l = now (c .before .before .before .before .before .before .args .l) in
-    finish-absent _ _ _ _ (group-at l (c .before .before .before .before .loop .at) _ _ (c .before .before .one-group .ensures) (c .enum-told2 .given .1)) ∙ sym (c .before .before .before .before .loop .inv .2)
+    let c4 = c .before .before .before .before in
+    let l = now (c4 .before .before .args .l) in
+    finish-absent _ _ _ _ (group-at l (c4 .loop .at) _ _ (c .before .before .one-group .ensures) (c .enum-told2 .given .1)) ∙ sym (c4 .loop .inv .2)
 
 pub array-dimensions-spec : {M : Type 1} → statement M
 array-dimensions-spec =

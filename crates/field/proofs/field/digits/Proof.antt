@@ -33,8 +33,9 @@ returns-2 c =
 
 returns-3 : tie.Need-returns-3 Inv-loop μ-loop
 returns-3 c =
-    let s = now (c .before .before .before .before .before .before .before .args .part) in
-    let l = c .before .before .before .before .loop in
+    let c4 = c .before .before .before .before in
+    let s = now (c4 .before .before .before .args .part) in
+    let l = c4 .loop in
     ap decimalOf (above-digits (l .n) s (l .i) (c .before .before .before .loop-test .taken) (c .if3 .taken) ∙ sym (l .inv .2))
 
 wide-requires : tie.Need-wide-requires Inv-loop μ-loop
@@ -45,10 +46,12 @@ sub-if4 c = omega (arith, c .wide .ensures, c .before .if3 .left)
 
 returns-4 : tie.Need-returns-4 Inv-loop μ-loop
 returns-4 c =
-    let s = now (c .before .before .before .before .before .before .before .before .before .args .part) in
-    let l = c .before .before .before .before .before .before .loop in
+    let c4 = c .before .before .before .before in
+    let c8 = c4 .before .before .before .before in
+    let s = now (c8 .before .args .part) in
+    let l = c4 .before .before .loop in
     let big : most < l .n * 10 + (getD s (l .i) 0 - 48) = omega (arith, c .before .wide .ensures) in
-    ap decimalOf (digit-too-large (l .n) s (l .i) (c .before .before .before .before .before .loop-test .taken) (c .before .before .before .if2 .left) (c .before .before .if3 .left) big ∙ sym (l .inv .2))
+    ap decimalOf (digit-too-large (l .n) s (l .i) (c4 .before .loop-test .taken) (c .before .before .before .if2 .left) (c .before .before .if3 .left) big ∙ sym (l .inv .2))
 
 mul-n : tie.Need-mul-n Inv-loop μ-loop
 mul-n c = omega arith
@@ -64,9 +67,11 @@ loop-less c = omega arith
 
 loop-again : tie.Need-loop-again Inv-loop μ-loop
 loop-again c =
-    let s = now (c .before .before .before .before .before .before .before .before .before .args .part) in
-    let l = c .before .before .before .before .before .before .loop in
-    (omega arith, omega arith, rw (c .before .wide .ensures) (l .inv .2 ∙ ap atMost (next-digit (l .n) s (l .i) (c .before .before .before .before .before .loop-test .taken) (c .before .before .before .if2 .left) (c .before .before .if3 .left))))
+    let c4 = c .before .before .before .before in
+    let c8 = c4 .before .before .before .before in
+    let s = now (c8 .before .args .part) in
+    let l = c4 .before .before .loop in
+    (omega arith, omega arith, rw (c .before .wide .ensures) (l .inv .2 ∙ ap atMost (next-digit (l .n) s (l .i) (c4 .before .loop-test .taken) (c .before .before .before .if2 .left) (c .before .before .if3 .left))))
 
 returns-5 : tie.Need-returns-5 Inv-loop μ-loop
 returns-5 c =

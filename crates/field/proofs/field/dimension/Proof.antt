@@ -1,7 +1,7 @@
 -- `dimension` reads the content of a group: a sign that is passed over, and digits.
 use mathlib.Core.Path.{_∙_, ap}
 use denote.Ref.{now}
-use Rattle.primitive.proofs.Reading.{to-the-end}
+use Rattle.bytes.proofs.Reading.{to-the-end}
 use Rattle.field.specs.Declarators.{unsigned}
 use Rattle.field.specs.Helpers.{decimalOf}
 use Rattle.field.proofs.Decimals.{empty-decimal, signed-decimal, plain-decimal}
@@ -29,8 +29,9 @@ digits-requires c κs = search needs
 
 returns-2 : tie.Need-returns-2
 returns-2 c =
-    let s = now (c .before .before .before .before .before .before .args .part) in
-    c .digits .ensures ∙ ap decimalOf (ap unsigned (to-the-end s 1) ∙ signed-decimal s (c .before .before .before .before .if1 .left) (c .before .before .if2 .taken))
+    let c4 = c .before .before .before .before in
+    let s = now (c4 .before .before .args .part) in
+    c .digits .ensures ∙ ap decimalOf (ap unsigned (to-the-end s 1) ∙ signed-decimal s (c4 .if1 .left) (c .before .before .if2 .taken))
 
 digits-requires-2 : tie.Need-digits-requires-2
 digits-requires-2 c κs = search needs

@@ -15,7 +15,9 @@ abbrev μ-loop : tie.MeasureT-loop
 μ-loop l dimensions₀ i₀ at₀ dimensions i at = length l - at
 
 loop-holds : tie.Need-loop-holds Inv-loop μ-loop
-loop-holds c = filling-starts (now (c .before .before .args .l)) (now (c .before .before .args .dimensions))
+loop-holds c =
+    let a = c .before .before .args in
+    filling-starts (now (a .l)) (now (a .dimensions))
 
 sub-one-group : tie.Need-sub-one-group Inv-loop μ-loop
 sub-one-group c = omega arith
@@ -34,46 +36,59 @@ enum-known-d c = search needs
 
 mul-dimensions : tie.Need-mul-dimensions Inv-loop μ-loop
 mul-dimensions c =
-    let l = now (c .before .before .before .before .before .before .before .before .args .l) in
-    let g = group-at l (c .before .before .before .before .before .loop .at) _ _ (c .before .before .before .one-group .ensures) (c .before .d .given .1) in
-    let f = c .before .before .before .before .before .loop .inv in
-    let h : c .before .before .before .before .before .loop .i < length (now (c .before .before .before .before .before .before .before .before .args .dimensions)) = next-place _ _ _ _ _ f _ _ g (c .before .before .before .before .before .before .before .before .pre) in
+    let c4 = c .before .before .before .before in
+    let c8 = c4 .before .before .before .before in
+    let a = c8 .args in
+    let l = now (a .l) in
+    let g = group-at l (c4 .before .loop .at) _ _ (c .before .before .before .one-group .ensures) (c .before .d .given .1) in
+    let f = c4 .before .loop .inv in
+    let h : c4 .before .loop .i < length (now (a .dimensions)) = next-place _ _ _ _ _ f _ _ g (c8 .pre) in
     search needs
 
 slice-write-dimensions : tie.Need-slice-write-dimensions Inv-loop μ-loop
 slice-write-dimensions c =
-    let l = now (c .before .before .before .before .before .before .before .before .args .l) in
-    let g = group-at l (c .before .before .before .before .before .loop .at) _ _ (c .before .before .before .one-group .ensures) (c .before .d .given .1) in
-    let f = c .before .before .before .before .before .loop .inv in
-    omega (arith, f .long, next-place _ _ _ _ _ f _ _ g (c .before .before .before .before .before .before .before .before .pre))
+    let c4 = c .before .before .before .before in
+    let c8 = c4 .before .before .before .before in
+    let l = now (c8 .args .l) in
+    let g = group-at l (c4 .before .loop .at) _ _ (c .before .before .before .one-group .ensures) (c .before .d .given .1) in
+    let f = c4 .before .loop .inv in
+    omega (arith, f .long, next-place _ _ _ _ _ f _ _ g (c8 .pre))
 
 add-i : tie.Need-add-i Inv-loop μ-loop
 add-i c =
-    let l = now (c .before .before .before .before .before .before .before .before .args .l) in
-    let g = group-at l (c .before .before .before .before .before .loop .at) _ _ (c .before .before .before .one-group .ensures) (c .before .d .given .1) in
-    let f = c .before .before .before .before .before .loop .inv in
+    let c4 = c .before .before .before .before in
+    let c8 = c4 .before .before .before .before in
+    let l = now (c8 .args .l) in
+    let g = group-at l (c4 .before .loop .at) _ _ (c .before .before .before .one-group .ensures) (c .before .d .given .1) in
+    let f = c4 .before .loop .inv in
     omega (arith, f .few, f .within, next-span _ _ _ _ _ f _ _ g .1)
 
 add-at : tie.Need-add-at Inv-loop μ-loop
 add-at c =
-    let l = now (c .before .before .before .before .before .before .before .before .args .l) in
-    let g = group-at l (c .before .before .before .before .before .loop .at) _ _ (c .before .before .before .one-group .ensures) (c .before .d .given .1) in
-    let f = c .before .before .before .before .before .loop .inv in
+    let c4 = c .before .before .before .before in
+    let c8 = c4 .before .before .before .before in
+    let l = now (c8 .args .l) in
+    let g = group-at l (c4 .before .loop .at) _ _ (c .before .before .before .one-group .ensures) (c .before .d .given .1) in
+    let f = c4 .before .loop .inv in
     omega (arith, next-span _ _ _ _ _ f _ _ g .1)
 
 loop-less : tie.Need-loop-less Inv-loop μ-loop
 loop-less c =
-    let l = now (c .before .before .before .before .before .before .before .before .args .l) in
-    let g = group-at l (c .before .before .before .before .before .loop .at) _ _ (c .before .before .before .one-group .ensures) (c .before .d .given .1) in
-    let f = c .before .before .before .before .before .loop .inv in
+    let c4 = c .before .before .before .before in
+    let c8 = c4 .before .before .before .before in
+    let l = now (c8 .args .l) in
+    let g = group-at l (c4 .before .loop .at) _ _ (c .before .before .before .one-group .ensures) (c .before .d .given .1) in
+    let f = c4 .before .loop .inv in
     omega (arith, next-span _ _ _ _ _ f _ _ g .0, next-span _ _ _ _ _ f _ _ g .1)
 
 loop-again : tie.Need-loop-again Inv-loop μ-loop
 loop-again c =
-    let l = now (c .before .before .before .before .before .before .before .before .args .l) in
-    let g = group-at l (c .before .before .before .before .before .loop .at) _ _ (c .before .before .before .one-group .ensures) (c .before .d .given .1) in
-    let f = c .before .before .before .before .before .loop .inv in
-    filling-goes-on _ _ _ _ _ f _ _ g (c .before .before .before .before .before .before .before .before .pre)
+    let c4 = c .before .before .before .before in
+    let c8 = c4 .before .before .before .before in
+    let l = now (c8 .args .l) in
+    let g = group-at l (c4 .before .loop .at) _ _ (c .before .before .before .one-group .ensures) (c .before .d .given .1) in
+    let f = c4 .before .loop .inv in
+    filling-goes-on _ _ _ _ _ f _ _ g (c8 .pre)
 
 enum-told : tie.Need-enum-told Inv-loop μ-loop
 enum-told c = search needs
@@ -83,8 +98,9 @@ same-length c = c .before .before .before .before .loop .inv .long
 
 returns : tie.Need-returns Inv-loop μ-loop
 returns c =
-    let l = now (c .before .before .before .before .before .before .before .args .l) in
-    filling-ends _ _ _ _ _ (c .before .before .before .before .loop .inv) (leading-bad (drop (c .before .before .before .before .loop .at) l) (group-at l (c .before .before .before .before .loop .at) _ _ (c .before .before .one-group .ensures) (c .enum-told .given .1)))
+    let c4 = c .before .before .before .before in
+    let l = now (c4 .before .before .before .args .l) in
+    filling-ends _ _ _ _ _ (c4 .loop .inv) (leading-bad (drop (c4 .loop .at) l) (group-at l (c4 .loop .at) _ _ (c .before .before .one-group .ensures) (c .enum-told .given .1)))
 
 enum-told-2 : tie.Need-enum-told-2 Inv-loop μ-loop
 enum-told-2 c = search needs
@@ -94,8 +110,9 @@ same-length-2 c = c .before .before .before .before .loop .inv .long
 
 returns-2 : tie.Need-returns-2 Inv-loop μ-loop
 returns-2 c =
-    let l = now (c .before .before .before .before .before .before .before .args .l) in
-    filling-ends _ _ _ _ _ (c .before .before .before .before .loop .inv) (leading-absent (drop (c .before .before .before .before .loop .at) l) (group-at l (c .before .before .before .before .loop .at) _ _ (c .before .before .one-group .ensures) (c .enum-told2 .given .1)))
+    let c4 = c .before .before .before .before in
+    let l = now (c4 .before .before .before .args .l) in
+    filling-ends _ _ _ _ _ (c4 .loop .inv) (leading-absent (drop (c4 .loop .at) l) (group-at l (c4 .loop .at) _ _ (c .before .before .one-group .ensures) (c .enum-told2 .given .1)))
 
 pub fill-dimensions-spec : {M : Type 1} → statement M
 fill-dimensions-spec =

@@ -32,7 +32,10 @@ stands-at-requires-2 : tie.Need-stands-at-requires-2
 stands-at-requires-2 c κs = search needs
 
 returns-3 : tie.Need-returns-3
-returns-3 c = no-args (now (c .before .before .before .before .before .before .before .before .before .args .name)) (sym (c .before .before .before .before .before .before .stands-at .ensures) ∙ not-false _ (c .before .before .before .before .before .if1 .left)) (rw (c .before .before .before .before .first .ensures) at (c .before .before .before .if2 .left)) (sym (rw (c .before .before .before .before .first .ensures) at (c .before .stands-at2 .ensures)) ∙ not-true _ (c .if3 .taken))
+returns-3 c =
+    let c4 = c .before .before .before .before in
+    let c8 = c4 .before .before .before .before in
+    no-args (now (c8 .before .args .name)) (sym (c4 .before .before .stands-at .ensures) ∙ not-false _ (c4 .before .if1 .left)) (rw (c4 .first .ensures) at (c .before .before .before .if2 .left)) (sym (rw (c4 .first .ensures) at (c .before .stands-at2 .ensures)) ∙ not-true _ (c .if3 .taken))
 
 add-first : tie.Need-add-first
 add-first c = search needs
@@ -41,7 +44,10 @@ first-requires-2 : tie.Need-first-requires-2
 first-requires-2 c κs = search needs
 
 returns-4 : tie.Need-returns-4
-returns-4 c = args-open (now (c .before .before .before .before .before .before .before .before .before .before .before .args .name)) (sym (c .before .before .before .before .before .before .before .before .stands-at .ensures) ∙ not-false _ (c .before .before .before .before .before .before .before .if1 .left)) (rw (c .before .before .before .before .before .before .first .ensures) at (c .before .before .before .before .before .if2 .left)) (sym (rw (c .before .before .before .before .before .before .first .ensures) at (c .before .before .before .stands-at2 .ensures)) ∙ not-false _ (c .before .before .if3 .left)) (rw (c .before .first2 .ensures, c .before .before .before .before .before .before .first .ensures) at (c .if4 .taken))
+returns-4 c =
+    let c4 = c .before .before .before .before in
+    let c8 = c4 .before .before .before .before in
+    args-open (now (c8 .before .before .before .args .name)) (sym (c8 .stands-at .ensures) ∙ not-false _ (c4 .before .before .before .if1 .left)) (rw (c4 .before .before .first .ensures) at (c4 .before .if2 .left)) (sym (rw (c4 .before .before .first .ensures) at (c .before .before .before .stands-at2 .ensures)) ∙ not-false _ (c .before .before .if3 .left)) (rw (c .before .first2 .ensures, c4 .before .before .first .ensures) at (c .if4 .taken))
 
 sub-t10 : tie.Need-sub-t10
 sub-t10 c = search needs
@@ -56,7 +62,10 @@ sub-t17 : tie.Need-sub-t17
 sub-t17 c = search needs
 
 returns-5 : tie.Need-returns-5
-returns-5 c = rw (c .before .first2 .ensures, c .before .before .before .before .before .before .first .ensures) (is-function (now (c .before .before .before .before .before .before .before .before .before .before .before .args .name)) (sym (c .before .before .before .before .before .before .before .before .stands-at .ensures) ∙ not-false _ (c .before .before .before .before .before .before .before .if1 .left)) (rw (c .before .before .before .before .before .before .first .ensures) at (c .before .before .before .before .before .if2 .left)) (sym (rw (c .before .before .before .before .before .before .first .ensures) at (c .before .before .before .stands-at2 .ensures)) ∙ not-false _ (c .before .before .if3 .left)) (rw (c .before .first2 .ensures, c .before .before .before .before .before .before .first .ensures) at (c .if4 .left)))
+returns-5 c =
+    let c4 = c .before .before .before .before in
+    let c8 = c4 .before .before .before .before in
+    rw (c .before .first2 .ensures, c4 .before .before .first .ensures) (is-function (now (c8 .before .before .before .args .name)) (sym (c8 .stands-at .ensures) ∙ not-false _ (c4 .before .before .before .if1 .left)) (rw (c4 .before .before .first .ensures) at (c4 .before .if2 .left)) (sym (rw (c4 .before .before .first .ensures) at (c .before .before .before .stands-at2 .ensures)) ∙ not-false _ (c .before .before .if3 .left)) (rw (c .before .first2 .ensures, c4 .before .before .first .ensures) at (c .if4 .left)))
 
 pub function-pointer-spec : {M : Type 1} → statement M
 function-pointer-spec =

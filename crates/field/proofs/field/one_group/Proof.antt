@@ -43,13 +43,17 @@ enum-told c = search needs
 
 returns-2 : tie.Need-returns-2
 returns-2 c =
-    let l = now (c .before .before .before .before .before .before .before .before .before .before .before .args .l) in
-    is-group l (sym (c .before .before .before .before .before .before .before .before .stands-at .ensures) ∙ c .before .before .before .before .before .before .before .if1 .taken) (rw (c .before .before .before .before .before .before .first .ensures) at (c .before .before .before .before .before .if2 .left)) _ _ (c .before .before .before .before .before .before .first .ensures) (sym (c .before .d .given .1) ∙ c .before .before .before .dimension .ensures)
+    let c4 = c .before .before .before .before in
+    let c8 = c4 .before .before .before .before in
+    let l = now (c8 .before .before .before .args .l) in
+    is-group l (sym (c8 .stands-at .ensures) ∙ c4 .before .before .before .if1 .taken) (rw (c4 .before .before .first .ensures) at (c4 .before .if2 .left)) _ _ (c4 .before .before .first .ensures) (sym (c .before .d .given .1) ∙ c .before .before .before .dimension .ensures)
 
 returns-3 : tie.Need-returns-3
 returns-3 c =
-    let l = now (c .before .before .before .before .before .before .before .before .before .before .args .l) in
-    is-bad l (sym (c .before .before .before .before .before .before .before .stands-at .ensures) ∙ c .before .before .before .before .before .before .if1 .taken) (rw (c .before .before .before .before .before .first .ensures) at (c .before .before .before .before .if2 .left)) _ (c .before .before .before .before .before .first .ensures) (sym (c .enum-told .given .1) ∙ c .before .before .dimension .ensures)
+    let c4 = c .before .before .before .before in
+    let c8 = c4 .before .before .before .before in
+    let l = now (c8 .before .before .args .l) in
+    is-bad l (sym (c4 .before .before .before .stands-at .ensures) ∙ c4 .before .before .if1 .taken) (rw (c4 .before .first .ensures) at (c4 .if2 .left)) _ (c4 .before .first .ensures) (sym (c .enum-told .given .1) ∙ c .before .before .dimension .ensures)
 
 returns-4 : tie.Need-returns-4
 returns-4 c = no-bracket (now (c .before .before .before .before .args .l)) (sym (c .before .stands-at .ensures) ∙ c .if1 .left)

@@ -1,6 +1,6 @@
 -- `parse_field` tells on paper what `scanned` found, and fills the table only where it accepts.
 use lib.ListN.{length}
-use Rattle.primitive.proofs.Filling.{refused-kept}
+use Rattle.bytes.proofs.Filling.{refused-kept}
 use mathlib.Core.Path.{sym, _∙_}
 use native.Mathlib.Omega.{arith}
 use denote.Ref.{now}
@@ -23,7 +23,8 @@ enum-known-n c = search needs
 
 returns : tie.Need-returns
 returns c =
-    let e = array-no-room _ _ _ _ _ _ (arrayed _ _ _ _ _ _ (sym (c .before .before .n .given .1) ∙ c .before .before .before .before .scanned .ensures)) (length (now (c .before .before .before .before .before .before .before .args .dimensions))) (c .if1 .taken) in
+    let c4 = c .before .before .before .before in
+    let e = array-no-room _ _ _ _ _ _ (arrayed _ _ _ _ _ _ (sym (c .before .before .n .given .1) ∙ c4 .scanned .ensures)) (length (now (c4 .before .before .before .args .dimensions))) (c .if1 .taken) in
     (e, refused-kept _ _ _ _ _ e)
 
 enum-known-product : tie.Need-enum-known-product
@@ -31,20 +32,33 @@ enum-known-product c = search needs
 
 add-from : tie.Need-add-from
 add-from c =
-    let h = groups-inside (now (c .before .before .before .before .before .before .before .before .before .before .before .args .name)) _ _ _ _ _ (arrayed _ _ _ _ _ _ (sym (c .before .before .before .before .before .before .n .given .1) ∙ c .before .before .before .before .before .before .before .before .scanned .ensures)) in
+    let c4 = c .before .before .before .before in
+    let c8 = c4 .before .before .before .before in
+    let h = groups-inside (now (c8 .before .before .before .args .name)) _ _ _ _ _ (arrayed _ _ _ _ _ _ (sym (c4 .before .before .n .given .1) ∙ c8 .scanned .ensures)) in
     omega arith
 
 sub-fill-dimensions : tie.Need-sub-fill-dimensions
-sub-fill-dimensions c = groups-inside (now (c .before .before .before .before .before .before .before .before .before .before .before .args .name)) _ _ _ _ _ (arrayed _ _ _ _ _ _ (sym (c .before .before .before .before .before .before .n .given .1) ∙ c .before .before .before .before .before .before .before .before .scanned .ensures))
+sub-fill-dimensions c =
+    let c4 = c .before .before .before .before in
+    let c8 = c4 .before .before .before .before in
+    groups-inside (now (c8 .before .before .before .args .name)) _ _ _ _ _ (arrayed _ _ _ _ _ _ (sym (c4 .before .before .n .given .1) ∙ c8 .scanned .ensures))
 
 part-fill-dimensions-start : tie.Need-part-fill-dimensions-start
-part-fill-dimensions-start c = groups-inside (now (c .before .before .before .before .before .before .before .before .before .before .before .args .name)) _ _ _ _ _ (arrayed _ _ _ _ _ _ (sym (c .before .before .before .before .before .before .n .given .1) ∙ c .before .before .before .before .before .before .before .before .scanned .ensures))
+part-fill-dimensions-start c =
+    let c4 = c .before .before .before .before in
+    let c8 = c4 .before .before .before .before in
+    groups-inside (now (c8 .before .before .before .args .name)) _ _ _ _ _ (arrayed _ _ _ _ _ _ (sym (c4 .before .before .n .given .1) ∙ c8 .scanned .ensures))
 
 part-fill-dimensions-end : tie.Need-part-fill-dimensions-end
 part-fill-dimensions-end c = search needs
 
 fill-dimensions-requires : tie.Need-fill-dimensions-requires
-fill-dimensions-requires c κs = groups-few (now (c .before .before .before .before .before .before .before .before .before .before .before .before .before .args .name)) _ _ _ _ _ (arrayed _ _ _ _ _ _ (sym (c .before .before .before .before .before .before .before .before .n .given .1) ∙ c .before .before .before .before .before .before .before .before .before .before .scanned .ensures)) (now (c .before .before .before .before .before .before .before .before .before .before .before .before .before .args .dimensions)) (c .before .before .before .before .before .before .if1 .left)
+fill-dimensions-requires c κs =
+    let c4 = c .before .before .before .before in
+    let c8 = c4 .before .before .before .before in
+    let c12 = c8 .before .before .before .before in
+    let a = c12 .before .args in
+    groups-few (now (a .name)) _ _ _ _ _ (arrayed _ _ _ _ _ _ (sym (c8 .n .given .1) ∙ c8 .before .before .scanned .ensures)) (now (a .dimensions)) (c4 .before .before .if1 .left)
 
 array-kind-requires : tie.Need-array-kind-requires
 array-kind-requires c κs = search needs
@@ -67,15 +81,21 @@ same-length c = c .before .before .before .fill-dimensions .kept .1 .0
 
 returns-4 : tie.Need-returns-4
 returns-4 c =
-    let a = arrayed _ _ _ _ _ _ (sym (c .before .before .before .before .before .before .before .before .before .before .before .before .n .given .1) ∙ c .before .before .before .before .before .before .before .before .before .before .before .before .before .before .scanned .ensures) in (
-      array-scanned _ _ _ _ _ _ a _ (sym (c .before .before .before .before .before .before .before .before .product .given .1)) _ (c .array-kind .ensures) ∙ array-room _ _ _ _ _ _ a _ (c .before .before .before .before .before .before .before .before .before .before .if1 .left),
-      array-written (now (c .before .before .before .before .before .before .before .before .before .before .before .before .before .before .before .before .before .args .name)) _ _ _ _ _ a _ _ (c .before .before .before .before .before .before .before .before .before .before .if1 .left) _ (sym (c .before .before .before .before .before .before .before .before .product .given .1)) (c .before .before .before .fill-dimensions .ensures),
+    let c4 = c .before .before .before .before in
+    let c8 = c4 .before .before .before .before in
+    let c12 = c8 .before .before .before .before in
+    let c16 = c12 .before .before .before .before in
+    let a = arrayed _ _ _ _ _ _ (sym (c12 .n .given .1) ∙ c12 .before .before .scanned .ensures) in (
+      array-scanned _ _ _ _ _ _ a _ (sym (c8 .product .given .1)) _ (c .array-kind .ensures) ∙ array-room _ _ _ _ _ _ a _ (c8 .before .before .if1 .left),
+      array-written (now (c16 .before .args .name)) _ _ _ _ _ a _ _ (c8 .before .before .if1 .left) _ (sym (c8 .product .given .1)) (c .before .before .before .fill-dimensions .ensures),
     )
 
 returns-5 : tie.Need-returns-5
 returns-5 c =
-    let a = arrayed _ _ _ _ _ _ (sym (c .before .before .before .before .n .given .1) ∙ c .before .before .before .before .before .before .scanned .ensures) in
-    let e = array-too-large _ _ _ _ _ _ a (sym (c .enum-told2 .given .1)) ∙ array-room _ _ _ _ _ _ a (length (now (c .before .before .before .before .before .before .before .before .before .args .dimensions))) (c .before .before .if1 .left) in
+    let c4 = c .before .before .before .before in
+    let c8 = c4 .before .before .before .before in
+    let a = arrayed _ _ _ _ _ _ (sym (c4 .n .given .1) ∙ c4 .before .before .scanned .ensures) in
+    let e = array-too-large _ _ _ _ _ _ a (sym (c .enum-told2 .given .1)) ∙ array-room _ _ _ _ _ _ a (length (now (c8 .before .args .dimensions))) (c .before .before .if1 .left) in
     (e, refused-kept _ _ _ _ _ e)
 
 pub parse-field-spec : {M : Type 1} → statement M

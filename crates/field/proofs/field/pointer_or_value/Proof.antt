@@ -45,19 +45,29 @@ enum-known-count c = search needs
 
 add-at : tie.Need-add-at
 add-at c =
-    let h = span-le (now (c .before .before .before .before .before .before .before .before .before .args .name)) _ _ (c .before .before .before .before .before .before .before .stars .ensures) (c .before .before .before .before .before .before .first .ensures) (c .before .before .before .before .before .if1 .left) _ _ _ (sym (c .before .count .given .1) ∙ c .before .before .before .array-dimensions .ensures) in
+    let c4 = c .before .before .before .before in
+    let c8 = c4 .before .before .before .before in
+    let h = span-le (now (c8 .before .args .name)) _ _ (c4 .before .before .before .stars .ensures) (c4 .before .before .first .ensures) (c4 .before .if1 .left) _ _ _ (sym (c .before .count .given .1) ∙ c .before .before .before .array-dimensions .ensures) in
     omega arith
 
 sub-t22 : tie.Need-sub-t22
 sub-t22 c =
-    let h = span-le (now (c .before .before .before .before .before .before .before .before .before .args .name)) _ _ (c .before .before .before .before .before .before .before .stars .ensures) (c .before .before .before .before .before .before .first .ensures) (c .before .before .before .before .before .if1 .left) _ _ _ (sym (c .before .count .given .1) ∙ c .before .before .before .array-dimensions .ensures) in
+    let c4 = c .before .before .before .before in
+    let c8 = c4 .before .before .before .before in
+    let h = span-le (now (c8 .before .args .name)) _ _ (c4 .before .before .before .stars .ensures) (c4 .before .before .first .ensures) (c4 .before .if1 .left) _ _ _ (sym (c .before .count .given .1) ∙ c .before .before .before .array-dimensions .ensures) in
     omega arith
 
 returns-2 : tie.Need-returns-2
-returns-2 c = bad-scan (now (c .before .before .before .before .before .before .before .before .args .name)) _ _ (c .before .before .before .before .before .before .stars .ensures) (c .before .before .before .before .before .first .ensures) (c .before .before .before .before .if1 .left) (sym (c .enum-told .given .1) ∙ c .before .before .array-dimensions .ensures)
+returns-2 c =
+    let c4 = c .before .before .before .before in
+    let c8 = c4 .before .before .before .before in
+    bad-scan (now (c8 .args .name)) _ _ (c4 .before .before .stars .ensures) (c4 .before .first .ensures) (c4 .if1 .left) (sym (c .enum-told .given .1) ∙ c .before .before .array-dimensions .ensures)
 
 returns-3 : tie.Need-returns-3
-returns-3 c = array-scan (now (c .before .before .before .before .before .before .before .before .before .args .name)) _ _ (c .before .before .before .before .before .before .before .stars .ensures) (c .before .before .before .before .before .before .first .ensures) (c .before .before .before .before .before .if1 .left) _ _ _ (sym (c .before .count .given .1) ∙ c .before .before .before .array-dimensions .ensures)
+returns-3 c =
+    let c4 = c .before .before .before .before in
+    let c8 = c4 .before .before .before .before in
+    array-scan (now (c8 .before .args .name)) _ _ (c4 .before .before .before .stars .ensures) (c4 .before .before .first .ensures) (c4 .before .if1 .left) _ _ _ (sym (c .before .count .given .1) ∙ c .before .before .before .array-dimensions .ensures)
 
 pub pointer-or-value-spec : {M : Type 1} → statement M
 pointer-or-value-spec =

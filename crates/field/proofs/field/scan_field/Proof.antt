@@ -34,7 +34,9 @@ returns-2 : tie.Need-returns-2
 returns-2 c = sym (ap scannedAs (invalid-told _ (sym (c .enum-told .given .1) ∙ c .before .before .scanned .ensures)))
 
 returns-3 : tie.Need-returns-3
-returns-3 c = array-scanned _ _ _ _ _ _ (arrayed _ _ _ _ _ _ (sym (c .before .before .before .before .before .n .given .1) ∙ c .before .before .before .before .before .before .before .scanned .ensures)) _ (sym (c .before .before .product .given .1)) _ (c .array-kind .ensures)
+returns-3 c =
+    let c4 = c .before .before .before .before in
+    array-scanned _ _ _ _ _ _ (arrayed _ _ _ _ _ _ (sym (c4 .before .n .given .1) ∙ c4 .before .before .before .scanned .ensures)) _ (sym (c .before .before .product .given .1)) _ (c .array-kind .ensures)
 
 returns-4 : tie.Need-returns-4
 returns-4 c = array-too-large _ _ _ _ _ _ (arrayed _ _ _ _ _ _ (sym (c .before .before .before .n .given .1) ∙ c .before .before .before .before .before .scanned .ensures)) (sym (c .enum-told2 .given .1))

@@ -22,7 +22,7 @@ returns : tie.Need-returns
 returns c = as-function (now (c .before .before .before .before .before .args .name)) _ (sym (c .before .d .given .1) ∙ c .before .before .before .function-pointer .ensures)
 
 returns-2 : tie.Need-returns-2
-returns-2 c = c .pointer-or-value .ensures ∙ as-other (now (c .before .before .before .before .before .args .name)) (sym (c .before .enum-told .given .1) ∙ c .before .before .before .function-pointer .ensures)
+returns-2 c = c .pointer-or-value .ensures ∙ as-other (now (c .before .before .before .before .before .args .name)) _ (sym (c .before .enum-told .given .1) ∙ c .before .before .before .function-pointer .ensures)
 
 pub scanned-spec : {M : Type 1} → statement M
 scanned-spec =

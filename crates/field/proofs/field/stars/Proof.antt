@@ -24,8 +24,9 @@ shared-slice-read-if1 c = omega arith
 
 returns : tie.Need-returns Inv-loop μ-loop
 returns c =
+    let l = c .before .before .before .loop in
     let s = now (c .before .before .before .before .args .name) in
-    omega (arith, stars-end s (c .before .before .before .loop .i) (c .before .before .loop-test .taken) (c .if1 .taken), c .before .before .before .loop .inv .1)
+    omega (arith, stars-end s (l .i) (c .before .before .loop-test .taken) (c .if1 .taken), l .inv .1)
 
 add-i : tie.Need-add-i Inv-loop μ-loop
 add-i c = omega arith
@@ -35,8 +36,9 @@ loop-less c = omega arith
 
 loop-again : tie.Need-loop-again Inv-loop μ-loop
 loop-again c =
+    let l = c .before .before .before .loop in
     let s = now (c .before .before .before .before .args .name) in
-    (omega arith, omega (arith, stars-on s (c .before .before .before .loop .i) (c .before .before .loop-test .taken) (c .if1 .left), c .before .before .before .loop .inv .1))
+    (omega arith, omega (arith, stars-on s (l .i) (c .before .before .loop-test .taken) (c .if1 .left), l .inv .1))
 
 returns-2 : tie.Need-returns-2 Inv-loop μ-loop
 returns-2 c =

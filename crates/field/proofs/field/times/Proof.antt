@@ -18,7 +18,8 @@ div-if2 c = search needs
 
 mul-t9 : tie.Need-mul-t9
 mul-t9 c =
-    let l : c .before .before .p .given .0 .0 * c .before .before .before .before .before .args .d ≤ most = times-fit _ _ (c .before .before .before .before .if1 .left) (c .if2 .taken) in
+    let c4 = c .before .before .before .before in
+    let l : c .before .before .p .given .0 .0 * c4 .before .args .d ≤ most = times-fit _ _ (c4 .if1 .left) (c .if2 .taken) in
     omega arith
 
 enum-told : tie.Need-enum-told

@@ -22,10 +22,16 @@ enum-told : tie.Need-enum-told
 enum-told c = search needs
 
 returns : tie.Need-returns
-returns c = wide-is (unitOf (c .before .before .before .before .before .before .args .d .kind) (c .before .before .before .before .before .before .args .size) (c .before .before .before .before .before .before .args .pointer-size)) (lengthOf (c .before .before .before .before .before .before .args .d .kind)) _ (sym (c .before .n .given .1) ∙ rw (c .before .before .before .before .before .unit .ensures, c .before .before .before .before .elements .ensures) at (c .before .before .before .times .ensures))
+returns c =
+    let c4 = c .before .before .before .before in
+    let a = c4 .before .before .args in
+    wide-is (unitOf (a .d .kind) (a .size) (a .pointer-size)) (lengthOf (a .d .kind)) _ (sym (c .before .n .given .1) ∙ rw (c4 .before .unit .ensures, c4 .elements .ensures) at (c .before .before .before .times .ensures))
 
 returns-2 : tie.Need-returns-2
-returns-2 c = wide-not (unitOf (c .before .before .before .before .before .args .d .kind) (c .before .before .before .before .before .args .size) (c .before .before .before .before .before .args .pointer-size)) (lengthOf (c .before .before .before .before .before .args .d .kind)) (sym (c .enum-told .given .1) ∙ rw (c .before .before .before .before .unit .ensures, c .before .before .before .elements .ensures) at (c .before .before .times .ensures))
+returns-2 c =
+    let c4 = c .before .before .before .before in
+    let a = c4 .before .args in
+    wide-not (unitOf (a .d .kind) (a .size) (a .pointer-size)) (lengthOf (a .d .kind)) (sym (c .enum-told .given .1) ∙ rw (c4 .unit .ensures, c .before .before .before .elements .ensures) at (c .before .before .times .ensures))
 
 pub width-spec : {M : Type 1} → statement M
 width-spec =

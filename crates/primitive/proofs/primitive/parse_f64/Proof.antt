@@ -17,7 +17,7 @@ enum-told : tie.Need-enum-told
 enum-told c = search needs
 
 returns : tie.Need-returns
-returns c = refused-too 8 (float binary64) _ _ (ap paperU64 (sym (c .enum-told .given .1)) ∙ c .before .before .parse-u64 .ensures)
+returns c = refused-too 8 (float binary64) _ _ _ (ap paperU64 (sym (c .enum-told .given .1)) ∙ c .before .before .parse-u64 .ensures)
 
 returns-2 : tie.Need-returns-2
 returns-2 c = nan-told binary64 _ (c .if1 .taken) ∙ read-too 8 (float binary64) _ _ _ (ap paperU64 (sym (c .before .before .n .given .1)) ∙ c .before .before .before .before .parse-u64 .ensures)

@@ -2,7 +2,7 @@
 use mathlib.Core.Path.{_∙_, sym, ap}
 use mir.Syntax.{w16}
 use mir.ValLaws.{toZ-ofZ}
-use Rattle.primitive.specs.Paper.Paper.{integer}
+use Rattle.bytes.specs.Paper.Paper.{integer}
 use Rattle.primitive.specs.Primitive.{signed, paperU16}
 use Rattle.primitive.proofs.Values.{refused-too, read-too}
 use borrow.Author.Needs.{needs}
@@ -19,7 +19,7 @@ enum-told : tie.Need-enum-told
 enum-told c = search needs
 
 returns : tie.Need-returns
-returns c = refused-too 2 (signed 16) _ _ (ap paperU16 (sym (c .enum-told .given .1)) ∙ c .before .before .parse-u16 .ensures)
+returns c = refused-too 2 (signed 16) _ _ _ (ap paperU16 (sym (c .enum-told .given .1)) ∙ c .before .before .parse-u16 .ensures)
 
 signed16-requires : tie.Need-signed16-requires
 signed16-requires c κs = search needs

@@ -2,7 +2,7 @@
 use mathlib.Core.Path.{_∙_, sym, ap}
 use mir.Syntax.{w32}
 use mir.ValLaws.{toZ-ofZ}
-use Rattle.primitive.specs.Paper.Paper.{integer}
+use Rattle.bytes.specs.Paper.Paper.{integer}
 use Rattle.primitive.specs.Primitive.{signed, paperU32}
 use Rattle.primitive.proofs.Values.{refused-too, read-too}
 use borrow.Author.Needs.{needs}
@@ -19,7 +19,7 @@ enum-told : tie.Need-enum-told
 enum-told c = search needs
 
 returns : tie.Need-returns
-returns c = refused-too 4 (signed 32) _ _ (ap paperU32 (sym (c .enum-told .given .1)) ∙ c .before .before .parse-u32 .ensures)
+returns c = refused-too 4 (signed 32) _ _ _ (ap paperU32 (sym (c .enum-told .given .1)) ∙ c .before .before .parse-u32 .ensures)
 
 signed32-requires : tie.Need-signed32-requires
 signed32-requires c κs = search needs

@@ -2,7 +2,7 @@
 use mathlib.Core.Path.{_∙_, sym, ap}
 use mir.Syntax.{w64}
 use mir.ValLaws.{toZ-ofZ}
-use Rattle.primitive.specs.Paper.Paper.{integer}
+use Rattle.bytes.specs.Paper.Paper.{integer}
 use Rattle.primitive.specs.Primitive.{signed, paperU64}
 use Rattle.primitive.proofs.Values.{refused-too, read-too}
 use borrow.Author.Needs.{needs}
@@ -19,7 +19,7 @@ enum-told : tie.Need-enum-told
 enum-told c = search needs
 
 returns : tie.Need-returns
-returns c = refused-too 8 (signed 64) _ _ (ap paperU64 (sym (c .enum-told .given .1)) ∙ c .before .before .parse-u64 .ensures)
+returns c = refused-too 8 (signed 64) _ _ _ (ap paperU64 (sym (c .enum-told .given .1)) ∙ c .before .before .parse-u64 .ensures)
 
 signed64-requires : tie.Need-signed64-requires
 signed64-requires c κs = search needs

@@ -2,7 +2,7 @@
 use mathlib.Core.Path.{_∙_, sym, ap}
 use mir.Syntax.{w8}
 use mir.ValLaws.{toZ-ofZ}
-use Rattle.primitive.specs.Paper.Paper.{integer}
+use Rattle.bytes.specs.Paper.Paper.{integer}
 use Rattle.primitive.specs.Primitive.{signed, paperU8}
 use Rattle.primitive.proofs.Values.{refused-too, read-too}
 use borrow.Author.Needs.{needs}
@@ -19,7 +19,7 @@ enum-told : tie.Need-enum-told
 enum-told c = search needs
 
 returns : tie.Need-returns
-returns c = refused-too 1 (signed 8) _ _ (ap paperU8 (sym (c .enum-told .given .1)) ∙ c .before .before .parse-u8 .ensures)
+returns c = refused-too 1 (signed 8) _ _ _ (ap paperU8 (sym (c .enum-told .given .1)) ∙ c .before .before .parse-u8 .ensures)
 
 signed8-requires : tie.Need-signed8-requires
 signed8-requires c κs = search needs

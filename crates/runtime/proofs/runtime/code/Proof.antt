@@ -1,9 +1,10 @@
 -- `code`: by the kind.
 use mathlib.Core.Path.{sym, _∙_, ap}
-use Rattle.primitive.proofs.Tests.{held, failed}
+use Rattle.bytes.proofs.Tests.{held, failed}
 use Rattle.runtime.specs.Addresses.{hasCode, codeAs}
+use Rattle.blend.specs.declared.About.{About}
 use Rattle.blend.specs.Blocks.{kindOf}
-use Rattle.blend.proofs.Lossless.{wholeKind}
+use Rattle.blend.proofs.Lossless.{whole-kind}
 use borrow.Author.Needs.{needs}
 use Rattle.runtime.proofs.runtime.code.Statement.{statement}
 use Rattle.runtime.proofs.runtime.code.Tie as tie
@@ -11,38 +12,38 @@ use Rattle.runtime.proofs.runtime.code.Tie as tie
 of-code-requires : tie.Need-of-code-requires
 of-code-requires c κs = search needs
 
-has-code-requires : tie.Need-has-code-requires
-has-code-requires c κs = search needs
+about-requires : tie.Need-about-requires
+about-requires c κs = search needs
 
-cast-t7 : tie.Need-cast-t7
-cast-t7 c = search needs
+cast-t8 : tie.Need-cast-t8
+cast-t8 c = search needs
 
-cast-t10 : tie.Need-cast-t10
-cast-t10 c = search needs
+cast-t11 : tie.Need-cast-t11
+cast-t11 c = search needs
 
-cast-t13 : tie.Need-cast-t13
-cast-t13 c = search needs
+cast-t14 : tie.Need-cast-t14
+cast-t14 c = search needs
 
-cast-t15 : tie.Need-cast-t15
-cast-t15 c = search needs
+cast-t16 : tie.Need-cast-t16
+cast-t16 c = search needs
 
 returns : tie.Need-returns
 unfolding codeAs
-returns c = sym (held _ _ (sym (c .before .has-code .ensures ∙ ap hasCode (wholeKind (c .before .before .of-code .result) (kindOf (c .before .before .before .args .number)) (c .before .before .of-code .ensures))) ∙ c .if1 .taken))
+returns c = sym (held _ _ (sym (ap (λ (x : About). x .coded) (c .before .about .ensures) ∙ ap hasCode (whole-kind (c .before .before .of-code .result) (kindOf (c .before .before .before .args .number)) (c .before .before .of-code .ensures))) ∙ c .if1 .taken))
 
 returns-2 : tie.Need-returns-2
 unfolding codeAs
-returns-2 c = sym (failed _ _ (sym (c .before .has-code .ensures ∙ ap hasCode (wholeKind (c .before .before .of-code .result) (kindOf (c .before .before .before .args .number)) (c .before .before .of-code .ensures))) ∙ c .if1 .left))
+returns-2 c = sym (failed _ _ (sym (ap (λ (x : About). x .coded) (c .before .about .ensures) ∙ ap hasCode (whole-kind (c .before .before .of-code .result) (kindOf (c .before .before .before .args .number)) (c .before .before .of-code .ensures))) ∙ c .if1 .left))
 
 pub code-spec : {M : Type 1} → statement M
 code-spec =
     tie.close
     (tie.spec
     of-code-requires
-    has-code-requires
-    cast-t7
-    cast-t10
-    cast-t13
-    cast-t15
+    about-requires
+    cast-t8
+    cast-t11
+    cast-t14
+    cast-t16
     returns
     returns-2)

@@ -3,8 +3,9 @@ use mathlib.Core.Path.{sym, _∙_, ap}
 use mathlib.Core.Bool.{Bool, _&&_}
 use lib.Dec.{eqb}
 use Rattle.runtime.specs.Addresses.{isFound}
+use Rattle.blend.specs.declared.About.{About}
 use Rattle.blend.specs.Blocks.{kindOf}
-use Rattle.blend.proofs.Lossless.{wholeKind}
+use Rattle.blend.proofs.Lossless.{whole-kind}
 use borrow.Author.Needs.{needs}
 use Rattle.runtime.proofs.runtime.matches.Statement.{statement}
 use Rattle.runtime.proofs.runtime.matches.Tie as tie
@@ -12,14 +13,18 @@ use Rattle.runtime.proofs.runtime.matches.Tie as tie
 of-code-requires : tie.Need-of-code-requires
 of-code-requires c κs = search needs
 
-is-found-requires : tie.Need-is-found-requires
-is-found-requires c κs = search needs
+about-requires : tie.Need-about-requires
+about-requires c κs = search needs
 
 returns : tie.Need-returns
-returns c = ap (λ (b : Bool). b && eqb (c .before .before .before .args .address) (c .before .before .before .args .wanted)) (sym (sym (c .before .is-found .ensures ∙ ap isFound (wholeKind (c .before .before .of-code .result) (kindOf (c .before .before .before .args .code)) (c .before .before .of-code .ensures))) ∙ c .if1 .taken))
+returns c =
+    let a = c .before .before .before .args in
+    ap (λ (b : Bool). b && eqb (a .address) (a .wanted)) (sym (sym (ap (λ (x : About). x .found) (c .before .about .ensures) ∙ ap isFound (whole-kind (c .before .before .of-code .result) (kindOf (a .code)) (c .before .before .of-code .ensures))) ∙ c .if1 .taken))
 
 returns-2 : tie.Need-returns-2
-returns-2 c = ap (λ (b : Bool). b && eqb (c .before .before .before .args .address) (c .before .before .before .args .wanted)) (sym (sym (c .before .is-found .ensures ∙ ap isFound (wholeKind (c .before .before .of-code .result) (kindOf (c .before .before .before .args .code)) (c .before .before .of-code .ensures))) ∙ c .if1 .left))
+returns-2 c =
+    let a = c .before .before .before .args in
+    ap (λ (b : Bool). b && eqb (a .address) (a .wanted)) (sym (sym (ap (λ (x : About). x .found) (c .before .about .ensures) ∙ ap isFound (whole-kind (c .before .before .of-code .result) (kindOf (a .code)) (c .before .before .of-code .ensures))) ∙ c .if1 .left))
 
 pub matches-spec : {M : Type 1} → statement M
-matches-spec = tie.close (tie.spec of-code-requires is-found-requires returns returns-2)
+matches-spec = tie.close (tie.spec of-code-requires about-requires returns returns-2)

@@ -18,10 +18,14 @@ slice-aggregate-result : tie.Need-slice-aggregate-result
 slice-aggregate-result c = search needs
 
 returns : tie.Need-returns
-returns c = part-there (now (c .before .before .before .before .before .before .args .file)) (now (c .before .before .before .before .before .before .args .table)) (c .before .before .before .before .before .before .args .row) (c .before .before .before .if1 .taken) _ _ (c .before .before .cell .ensures) (c .before .cell2 .ensures) _ (c .part .ensures)
+returns c =
+    let a = c .before .before .before .before .before .before .args in
+    part-there (now (a .file)) (now (a .table)) (a .row) (c .before .before .before .if1 .taken) _ _ (c .before .before .cell .ensures) (c .before .cell2 .ensures) _ (c .part .ensures)
 
 returns-2 : tie.Need-returns-2
-returns-2 c = part-no-row (now (c .before .before .before .before .args .file)) (now (c .before .before .before .before .args .table)) (c .before .before .before .before .args .row) (c .before .if1 .left)
+returns-2 c =
+    let a = c .before .before .before .before .args in
+    part-no-row (now (a .file)) (now (a .table)) (a .row) (c .before .if1 .left)
 
 pub view-part-spec : {M : Type 1} → statement M
 view-part-spec =

@@ -1,0 +1,8 @@
+-- Laws about the rules, for the proofs of this crate and of those above it.
+pub mod Versions
+pub mod Lengths
+pub mod Headers
+pub mod Own
+pub mod Lossless
+pub mod Refusing
+pub mod Examples

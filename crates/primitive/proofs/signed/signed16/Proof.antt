@@ -1,0 +1,28 @@
+-- `signed16` is two's complement, by the laws over the width.
+use mir.Syntax.{w16}
+use Rattle.primitive.proofs.Complement.{low, high, high-fits}
+use borrow.Author.Needs.{needs}
+use Rattle.primitive.proofs.signed.signed16.Statement.{statement}
+use Rattle.primitive.proofs.signed.signed16.Tie as tie
+
+cast-result : tie.Need-cast-result
+cast-result c = search needs
+
+returns : tie.Need-returns
+returns c = low w16 _ (c .if1 .taken)
+
+sub-result : tie.Need-sub-result
+sub-result c = search needs
+
+cast-result-2 : tie.Need-cast-result-2
+cast-result-2 c = search needs
+
+sub-result-2 : tie.Need-sub-result-2
+sub-result-2 c = high-fits w16 _ (c .if1 .left) (c .before .fits .n .fits)
+
+returns-2 : tie.Need-returns-2
+returns-2 c = high w16 _ (c .if1 .left) (c .before .fits .n .fits)
+
+pub signed16-spec : {M : Type 1} → statement M
+signed16-spec =
+    tie.close (tie.spec cast-result returns sub-result cast-result-2 sub-result-2 returns-2)

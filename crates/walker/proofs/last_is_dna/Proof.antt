@@ -1,0 +1,20 @@
+-- `last_is_dna`: either way.
+use mathlib.Core.Path.{refl}
+use borrow.Author.Needs.{needs}
+use Rattle.walker.proofs.last_is_dna.Statement.{statement}
+use Rattle.walker.proofs.last_is_dna.Tie as tie
+
+enum-told : tie.Need-enum-told
+enum-told c = search needs
+
+enum-told-2 : tie.Need-enum-told-2
+enum-told-2 c = search needs
+
+returns : tie.Need-returns
+returns c = rw (c .enum-told .given .1) refl
+
+returns-2 : tie.Need-returns-2
+returns-2 c = rw (c .enum-told2 .given .1) refl
+
+pub last-is-dna-spec : {M : Type 1} → statement M
+last-is-dna-spec = tie.close (tie.spec enum-told enum-told-2 returns returns-2)

@@ -1,0 +1,3 @@
+-- The rules of the walker.
+pub mod Walker
+pub mod Calls
