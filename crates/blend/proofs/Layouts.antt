@@ -11,6 +11,7 @@ use Rattle.bytes.specs.declared.Endianness.{Endianness}
 use Rattle.bytes.specs.declared.Endianness.the-variants.{Little, Big}
 use Rattle.bytes.specs.declared.Fault.{Fault}
 use Rattle.bytes.specs.declared.Fault.the-variants.{Cut, Refusal}
+use Rattle.bytes.specs.declared.PointerSize.{PointerSize}
 use Rattle.bytes.specs.Helpers.{numberAt}
 use Rattle.bytes.specs.Number.{number}
 use Rattle.bytes.specs.PointerSize.{pointerBytes}
@@ -30,6 +31,11 @@ use Rattle.header.proofs.Lengths.{layout-length}
 use Rattle.blend.specs.declared.BlockHeader.{BlockHeader}
 use Rattle.blend.specs.Blocks.{codeTold, tell, tested, fields, blockHeader}
 use Rattle.blend.specs.Helpers.{tellAll, headerAt, lastTwo, lastWidth, withAddress}
+
+-- how wide a block header's numbers are together
+pub length-parts : (f : FileFormat) (p : PointerSize) → blockHeaderLength f p ≡ 8 + pointerBytes p + lastWidth f + lastWidth f
+length-parts Legacy p = omega arith
+length-parts New p = omega arith
 
 -- All of the numbers are there: they are told, unless an address among them is 0.
 abbrev isNull : Field → ℕ → Bool
@@ -72,18 +78,14 @@ fields-there (i ∷ is) b s at h =
     ∙ ap (unlessNull (nullIn (i ∷ is) s at) (tellAll (i ∷ is) s at b)) e
 
 -- in both layouts one address is tested
+or-false : (t : Bool) → (t || false) ≡ t
+or-false true = refl
+or-false false = refl
+
 null-address : (f : FileFormat) (p : ℕ) (e : Endianness) (s : List ℕ) (at : ℕ) (b : BlockHeader)
     → nullIn (layoutOf f p e) s at ≡ eqb (tellAll (layoutOf f p e) s at b .address) 0
-null-address Legacy p e s at b = go (eqb (numberAt e p s (at + 4)) 0)
-  where
-    go : (t : Bool) → (t || false) ≡ t
-    go true = refl
-    go false = refl
-null-address New p e s at b = go (eqb (numberAt e p s (at + 4)) 0)
-  where
-    go : (t : Bool) → (t || false) ≡ t
-    go true = refl
-    go false = refl
+null-address Legacy p e s at b = or-false (eqb (numberAt e p s (at + 4)) 0)
+null-address New p e s at b = or-false (eqb (numberAt e p s (at + 4)) 0)
 
 module _ (h : Header) (s : List ℕ) (at : ℕ) where
   abbrev code : ℕ
@@ -214,11 +216,7 @@ module _ (h : Header) (s : List ℕ) (at : ℕ) where
               let a = skip-room 4 s at one g in
               let b = skip-room 4 s one two k in
               let c = number-moves e s w two n three (sym l) in
-              omega (arith, m, a .0, b .0, c, q, parts f)
-            where
-              parts : (f : FileFormat) → blockHeaderLength f (h .«pointer_size») ≡ 8 + p + (lastWidth f + lastWidth f)
-              parts Legacy = omega arith
-              parts New = omega arith
+              omega (arith, m, a .0, b .0, c, q, length-parts f (h .«pointer_size»))
 
           pub rest-missing : (n ≡ 0 → ⊥) → (x : Fault) → ((p : ℕ) (e : Endianness) (b : BlockHeader) → fault x ≡ run (fields (lastTwo f p e) b) s three) → fault x ≡ run (blockHeader h) s at
           unfolding on-address

@@ -9,9 +9,7 @@ use lib.ListN.{length}
 use Rattle.bytes.specs.declared.Endianness.{Endianness}
 use Rattle.bytes.specs.declared.Fault.{Fault}
 use Rattle.bytes.specs.declared.Fault.the-variants.{Refusal}
-use Rattle.bytes.specs.declared.PointerSize.{PointerSize}
 use Rattle.bytes.specs.Helpers.{goOn, numberAt}
-use Rattle.bytes.specs.PointerSize.{pointerBytes}
 use Rattle.bytes.specs.Reader.{Outcome, run}
 use Rattle.bytes.specs.Reader.Reader.{done, skip}
 use Rattle.bytes.specs.Reader.Outcome.{read, fault}
@@ -23,15 +21,10 @@ use Rattle.blend.specs.declared.BlockHeader.{BlockHeader}
 use Rattle.blend.specs.declared.Row.{Row}
 use Rattle.header.specs.Layout.{layoutOf, blockHeaderLength}
 use Rattle.blend.specs.Blocks.{blockHeader, rowOf, rowAt}
-use Rattle.blend.specs.Helpers.{tellAll, lastWidth, headerAt, withAddress, rowsFrom}
+use Rattle.blend.specs.Helpers.{tellAll, headerAt, withAddress, rowsFrom}
 use Rattle.blend.proofs.Layouts.{header-there}
 use Rattle.bytes.proofs.Parts.{skip-room, skip-short}
 use Rattle.blend.proofs.Rows.{row-headed, payload-fits, row-lies}
-
--- how wide a block header's numbers are together
-pub length-parts : (f : FileFormat) (p : PointerSize) → blockHeaderLength f p ≡ 8 + pointerBytes p + lastWidth f + lastWidth f
-length-parts Legacy p = omega arith
-length-parts New p = omega arith
 
 -- a block header by its numbers
 pub told-again : (f : FileFormat) (p : ℕ) (e : Endianness) (s : List ℕ) (at : ℕ) (b : BlockHeader)
@@ -68,7 +61,7 @@ module _ (h : Header) (s : List ℕ) (at n : ℕ) (e : n ≡ blockHeaderLength (
 -- and one that could not be is not
 pub header-not-there : (h : Header) (s : List ℕ) (at n : ℕ) → n ≡ blockHeaderLength (h .format) (h .«pointer_size»)
     → (x : Fault) → _≡_ {A = Outcome (Unit {0})} (fault x) (run (skip n (done tt)) s at) → length s < at + blockHeaderLength (h .format) (h .«pointer_size»)
-header-not-there h s at n e x g = rw e at (skip-short n s at x g)
+header-not-there h s at n e x g = rw e at (skip-short n s at x g .1)
 
 -- a block that reads: its header is there, and its row is made of that
 module _ (h : Header) (s : List ℕ) (at : ℕ) (r : Row) (next : ℕ) (g : rowAt h s at ≡ read r next) where

@@ -15,6 +15,7 @@ use Rattle.bytes.specs.Number.{spelled, number, tag}
 use Rattle.bytes.specs.Reader.{Reader, Outcome, run, same, room}
 use Rattle.bytes.specs.Reader.Reader.{done, stray, bytes, skip}
 use Rattle.bytes.specs.Reader.Outcome.{read, fault}
+use Rattle.bytes.proofs.Parts.{skip-room, skip-short}
 use Rattle.bytes.proofs.Same.{Finds}
 use Rattle.bytes.proofs.Tests.{held, failed}
 use Rattle.bytes.proofs.Unaltered.{grows}
@@ -64,33 +65,6 @@ bytes-move {A} n k s at = go (room s at n)
 
 -- a number whose bytes are passed over, or are not there
 module _ {A : Type 0} (e : Endianness) (w : ℕ) (k : ℕ → Reader A) (s : List ℕ) (at : ℕ) where
-  pub number-passed : (next : ℕ) → _≡_ {A = Outcome (Unit {0})} (read tt next) (run (skip w (done tt)) s at) → run (number e w k) s at ≡ run (k (numberAt e w s at)) s next
-  unfolding run
-  number-passed next h = go (room s at w) refl h
-    where
-      go : (t : Bool) → room s at w ≡ t → _≡_ {A = Outcome (Unit {0})} (read tt next) (elim t as (λ (c : Bool). Outcome (Unit {0})) [ true ↦ read tt (at + w) | false ↦ fault (Cut at) ])
-          → run (number e w k) s at ≡ run (k (numberAt e w s at)) s next
-      go true t g =
-          let q : at + w ≡ next = cc in
-          held _ _ t ∙ ap (λ (n : ℕ). run (k (numberAt e w s at)) s n) q
-      go false t g =
-          let z : _≡_ {A = ℕ} 0 1 = cc in
-          absurd (omega arith)
-
-  pub number-missing : (x : Fault) → _≡_ {A = Outcome (Unit {0})} (fault x) (run (skip w (done tt)) s at) → run (number e w k) s at ≡ fault x
-  unfolding run
-  number-missing x h = go (room s at w) refl h
-    where
-      go : (t : Bool) → room s at w ≡ t → _≡_ {A = Outcome (Unit {0})} (fault x) (elim t as (λ (c : Bool). Outcome (Unit {0})) [ true ↦ read tt (at + w) | false ↦ fault (Cut at) ])
-          → run (number e w k) s at ≡ fault x
-      go true t g =
-          let z : _≡_ {A = ℕ} 0 1 = cc in
-          absurd (omega arith)
-      go false t g =
-          let q : Cut at ≡ x = cc in
-          let stop : Fault → Outcome A = fault in
-          failed _ _ t ∙ ap stop q
-
   pub number-cut : length s < at + w → run (number e w k) s at ≡ fault (Cut at)
   unfolding run
   number-cut h = failed _ _ (lt-leb _ _ h)
@@ -98,6 +72,17 @@ module _ {A : Type 0} (e : Endianness) (w : ℕ) (k : ℕ → Reader A) (s : Lis
   pub number-in : at + w ≤ length s → run (number e w k) s at ≡ run (k (numberAt e w s at)) s (at + w)
   unfolding run
   number-in h = held _ _ (le-leb _ _ h)
+
+  pub number-passed : (next : ℕ) → _≡_ {A = Outcome (Unit {0})} (read tt next) (run (skip w (done tt)) s at) → run (number e w k) s at ≡ run (k (numberAt e w s at)) s next
+  number-passed next h =
+      let q = skip-room w s at next h in
+      number-in (q .1) ∙ ap (λ (n : ℕ). run (k (numberAt e w s at)) s n) (sym (q .0))
+
+  pub number-missing : (x : Fault) → _≡_ {A = Outcome (Unit {0})} (fault x) (run (skip w (done tt)) s at) → run (number e w k) s at ≡ fault x
+  number-missing x h =
+      let q = skip-short w s at x h in
+      let stop : Fault → Outcome A = fault in
+      number-cut (q .1) ∙ ap stop (q .0)
 
 -- a number that was read is among the bytes
 pub number-within : (e : Endianness) (s : List ℕ) (w at n next : ℕ) → run (number e w done) s at ≡ read n next → next ≤ length s

@@ -13,7 +13,7 @@ use Rattle.bytes.specs.Reader.{Reader, Outcome, run, room, zeroEnded, st
 use Rattle.bytes.specs.Reader.Reader.{done, refuse, stray, here, bytes, skip, string, begins}
 use Rattle.bytes.specs.Reader.Outcome.{read, fault}
 use Rattle.bytes.proofs.Same.{Finds, Anchored, anchored}
-use Rattle.bytes.proofs.Unaltered.{grows, agree-back, unaltered}
+use Rattle.bytes.proofs.Unaltered.{grows, agree-shifted, unaltered}
 
 -- the bytes of the front
 pub front : (s t : List ℕ) (n : ℕ) → take n t ≡ take n s → Untouched s t 0 n
@@ -62,7 +62,7 @@ module _ (s t : List ℕ) where
   passed at to n ps (read a next) g f = λ k e h l u.
       let d : k ≡ n + (k - n) = omega arith in
       let v : Shown s at t to (n + (k - n)) = subst (λ (j : ℕ). Shown s at t to j) d u in
-      agree-back ps s at t to n (f (k - n) (omega arith) h (omega arith) (shown-on s at t to n (k - n) v))
+      agree-shifted ps s (at + n) t (to + n) at to (omega arith) (f (k - n) (omega arith) h (omega arith) (shown-on s at t to n (k - n) v))
   passed at to n ps (fault x) g f = tt
 
   looked : {A : Type 0} (at to n : ℕ) (ps : List (ℕ × ℕ)) (o : Outcome A) → Finds o (λ (a : A) (next : ℕ). at + n ≤ next) → Finds o (Inside at to ps) → Finds o (Inside at to ((at, n) ∷ ps))

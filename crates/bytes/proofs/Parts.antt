@@ -27,16 +27,16 @@ skip-room n s at next h = go (room s at n) refl h
         absurd (omega arith)
 
 -- and bytes that could not be skipped were not
-pub skip-short : (n : ℕ) (s : List ℕ) (at : ℕ) (x : Fault) → _≡_ {A = Outcome (Unit {0})} (fault x) (run (skip n (done tt)) s at) → length s < at + n
+pub skip-short : (n : ℕ) (s : List ℕ) (at : ℕ) (x : Fault) → _≡_ {A = Outcome (Unit {0})} (fault x) (run (skip n (done tt)) s at) → (Cut at ≡ x) × (length s < at + n)
 unfolding run
 skip-short n s at x h = go (room s at n) refl h
   where
     go : (t : Bool) → room s at n ≡ t → _≡_ {A = Outcome (Unit {0})} (fault x) (elim t as (λ (c : Bool). Outcome (Unit {0})) [ true ↦ read tt (at + n) | false ↦ fault (Cut at) ])
-        → length s < at + n
+        → (Cut at ≡ x) × (length s < at + n)
     go true e g =
         let z : _≡_ {A = ℕ} 0 1 = cc in
         absurd (omega arith)
-    go false e g = leb-false _ _ e
+    go false e g = (cc, leb-false _ _ e)
 
 -- a slice, which has a start and an end
 module _ (s : List ℕ) (at n : ℕ) where

@@ -80,14 +80,10 @@ mapped : {A : Type 0} (P Q : A → ℕ → Type 0) (o : Outcome A) → ((a : A) 
 mapped P Q (read a next) f p = f a next p
 mapped P Q (fault x) f p = tt
 
--- what agrees from two places on agrees from n bytes after both
-agree-on : (ps : List (ℕ × ℕ)) (s : List ℕ) (at : ℕ) (t : List ℕ) (to n : ℕ) → Agree ps s at t to → Agree ps s (at + n) t (to + n)
-agree-on [] s at t to n w = tt
-agree-on (p ∷ ps) s at t to n w = (λ q e. w .0 q (omega arith), agree-on ps s at t to n (w .1))
-
-pub agree-back : (ps : List (ℕ × ℕ)) (s : List ℕ) (at : ℕ) (t : List ℕ) (to n : ℕ) → Agree ps s (at + n) t (to + n) → Agree ps s at t to
-agree-back [] s at t to n w = tt
-agree-back (p ∷ ps) s at t to n w = (λ q e. w .0 q (omega arith), agree-back ps s at t to n (w .1))
+-- only how far the two places are apart matters
+pub agree-shifted : (ps : List (ℕ × ℕ)) (s : List ℕ) (at : ℕ) (t : List ℕ) (to at′ to′ : ℕ) → at + to′ ≡ at′ + to → Agree ps s at t to → Agree ps s at′ t to′
+agree-shifted [] s at t to at′ to′ d w = tt
+agree-shifted (p ∷ ps) s at t to at′ to′ d w = (λ q e. w .0 q (omega arith), agree-shifted ps s at t to at′ to′ d (w .1))
 
 module _ (s t : List ℕ) where
   -- t, if it goes as far from `to` as the find from `at`, shows the tree the same
@@ -103,7 +99,7 @@ module _ (s t : List ℕ) where
   stepwise r r′ true at to n x v f g =
       both (λ a next. at + n ≤ next) (Shows r′ (at + n) (to + n)) (Shows r at to) (run r′ s (at + n))
       (λ a next p q k e h. g refl (omega arith) (q (k - n) (omega arith) (omega arith)))
-      (grows r′ s (at + n)) (f (agree-on (looks r′ s (at + n)) s at t to n v))
+      (grows r′ s (at + n)) (f (agree-shifted (looks r′ s (at + n)) s at t to (at + n) (to + n) (omega arith) v))
   stepwise r r′ false at to n x v f g = tt
 
   -- A find, and a t that agrees in every span that was looked at and goes at least as far: t shows the tree the same.
@@ -143,7 +139,7 @@ module _ (s t : List ℕ) where
       go true x f g =
           both (λ a next. at + length m ≤ next) (Shows on (at + length m) (to + length m)) (λ a next. (k : ℕ) → next ≡ at + k → to + k ≤ length t → Left true) (run on s (at + length m))
           (λ a next p q k e h. q (k - length m) (omega arith) (omega arith))
-          (grows on s (at + length m)) (f (agree-on (looks on s (at + length m)) s at t to (length m) x))
+          (grows on s (at + length m)) (f (agree-shifted (looks on s (at + length m)) s at t to (at + length m) (to + length m) (omega arith) x))
       go false x f g = g x
 
 -- What a tree found in s it finds in any t that agrees where it looked and is long enough, whatever else t holds; at another place too, if it does not ask where it is.

@@ -7,7 +7,8 @@ use Rattle.bytes.specs.PointerSize.{pointerBytes}
 use Rattle.bytes.specs.declared.Endianness.the-variants.{Big}
 use Rattle.bytes.specs.Helpers.{numberAt}
 use Rattle.blend.specs.Blocks.{codeTold}
-use Rattle.blend.proofs.There.{length-parts, address-of}
+use Rattle.blend.proofs.Layouts.{length-parts}
+use Rattle.blend.proofs.There.{address-of}
 use borrow.Author.Needs.{needs}
 use Rattle.blend.proofs.blend.address_there.Statement.{statement}
 use Rattle.blend.proofs.blend.address_there.Tie as tie

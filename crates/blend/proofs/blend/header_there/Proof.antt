@@ -6,7 +6,8 @@ use Rattle.bytes.specs.declared.Endianness.the-variants.{Big}
 use Rattle.bytes.specs.Helpers.{numberAt}
 use Rattle.bytes.specs.PointerSize.{pointerBytes}
 use Rattle.blend.specs.Blocks.{codeTold}
-use Rattle.blend.proofs.There.{length-parts, told-again}
+use Rattle.blend.proofs.Layouts.{length-parts}
+use Rattle.blend.proofs.There.{told-again}
 use borrow.Author.Needs.{needs}
 use Rattle.blend.proofs.blend.header_there.Statement.{statement}
 use Rattle.blend.proofs.blend.header_there.Tie as tie

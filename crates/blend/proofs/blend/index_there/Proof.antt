@@ -5,7 +5,7 @@ use native.Mathlib.Omega.{arith}
 use denote.Ref.{now}
 use Rattle.bytes.specs.Helpers.{numberAt}
 use Rattle.blend.specs.Helpers.{lastWidth}
-use Rattle.blend.proofs.There.{length-parts}
+use Rattle.blend.proofs.Layouts.{length-parts}
 use borrow.Author.Needs.{needs}
 use Rattle.blend.proofs.blend.index_there.Statement.{statement}
 use Rattle.blend.proofs.blend.index_there.Tie as tie

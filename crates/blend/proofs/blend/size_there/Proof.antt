@@ -6,7 +6,7 @@ use denote.Ref.{now}
 use Rattle.bytes.specs.declared.Endianness.the-variants.{Little}
 use Rattle.bytes.specs.Helpers.{numberAt}
 use Rattle.blend.specs.Helpers.{lastWidth}
-use Rattle.blend.proofs.There.{length-parts}
+use Rattle.blend.proofs.Layouts.{length-parts}
 use borrow.Author.Needs.{needs}
 use Rattle.blend.proofs.blend.size_there.Statement.{statement}
 use Rattle.blend.proofs.blend.size_there.Tie as tie
