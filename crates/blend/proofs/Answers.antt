@@ -18,16 +18,16 @@ use Rattle.bytes.proofs.Filling.{put-over}
 use Rattle.bytes.proofs.Tests.{held, failed}
 use Rattle.dna.specs.declared.dna.DnaCounts.{DnaCounts}
 use Rattle.header.specs.declared.Header.{Header}
-use Rattle.blend.specs.declared.Row.{Row}
+use Rattle.block.specs.declared.Row.{Row}
 use Rattle.blend.specs.declared.blend.Chained.{Chained}
 use Rattle.header.specs.declared.blend.HeaderAnswer.{HeaderAnswer}
 use Rattle.blend.specs.declared.blend.Last.{Last}
 use Rattle.header.specs.Header.{HeaderBytes, headerBytes, valued, headerNumbers, headerAs, paperHeader, refusalOf}
 use Rattle.blend.specs.Chain.{Chain, chainFrom, countNumbers, answerFor, onHeader, readAs, rowsOf, fileBy, tableAfter}
-use Rattle.blend.specs.Rows.{perRow, rowTable}
+use Rattle.block.specs.Rows.{perRow, rowTable}
 use Rattle.blend.specs.Helpers.{summed, summedAs, rowsFrom}
 use Rattle.blend.proofs.Chains.{rows-again}
-use Rattle.blend.proofs.Tables.{table-length}
+use Rattle.block.proofs.Tables.{table-length}
 use Rattle.header.proofs.Lossless.{header-known, header-refused}
 
 -- what the first pass tells of the chain

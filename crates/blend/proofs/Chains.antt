@@ -15,17 +15,18 @@ use Rattle.bytes.proofs.Marks.{stands-cut, stands-room}
 use Rattle.bytes.proofs.Tests.{held, failed}
 use Rattle.dna.specs.Catalogue.{Dna, catalogue}
 use Rattle.header.specs.declared.Header.{Header}
-use Rattle.blend.specs.declared.Row.{Row}
+use Rattle.block.specs.declared.Row.{Row}
 use Rattle.blend.specs.declared.blend.Last.{Last}
 use Rattle.blend.specs.declared.blend.Pass.{Pass}
 use Rattle.blend.specs.declared.blend.Boundary.{Boundary}
 use Rattle.blend.specs.declared.blend.Chained.{Chained}
-use Rattle.blend.specs.Blocks.{kindOf, isDna, rowAt, payloadOf, catalogued, finished, onRow, boundaryOf}
+use Rattle.block.specs.Kinds.{kindOf}
+use Rattle.blend.specs.Blocks.{isDna, rowAt, catalogued, finished, onRow, boundaryOf}
+use Rattle.block.specs.Rows.{payloadOf, rowNumbers, rowTable}
 use Rattle.blend.specs.Chain.{Chain, ended, link, chain, chainFrom}
-use Rattle.blend.specs.Rows.{rowNumbers, rowTable}
 use Rattle.blend.specs.Helpers.{summed, summedAs, rowsFrom}
 use Rattle.header.proofs.Lengths.{header-at-least}
-use Rattle.blend.proofs.Layouts.{code-cut}
+use Rattle.block.proofs.Layouts.{code-cut}
 use Rattle.blend.proofs.Rows.{Lies, row-lies, row-no-header, boundary-stops}
 
 -- a block at a boundary has its row

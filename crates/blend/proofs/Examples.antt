@@ -2,30 +2,16 @@
 use Prim.Native.Nat.{ℕ}
 use mathlib.Core.List.{List, [], _∷_, _++_}
 use mathlib.Core.Path.{_≡_, refl}
-use lib.ListN.{replicate}
-use Rattle.bytes.specs.declared.Endianness.the-variants.{Big}
-use Rattle.bytes.specs.declared.PointerSize.the-variants.{Bits32}
 use Rattle.bytes.specs.Ascii.{ascii}
 use Rattle.bytes.specs.Paper.Paper.{accepts, refuses}
 use Rattle.bytes.specs.Reader.{run, then, times}
-use Rattle.bytes.specs.Reader.Outcome.{read}
 use Rattle.dna.specs.Catalogue.{catalogue, listed, strings, sized, struct, structured, fieldCount}
-use Rattle.header.specs.declared.FileFormat.the-variants.{Legacy, New}
 use Rattle.header.specs.Header.{decimal, legacy, new, headerBytes}
-use Rattle.blend.specs.Blocks.{fields, blockHeader, kindOf, block, rowAt, finished, boundaryOf}
+use Rattle.block.specs.BlockHeaders.{fields, blockHeader}
+use Rattle.block.specs.Kinds.{kindOf}
+use Rattle.blend.specs.Blocks.{block, rowAt, finished, boundaryOf}
 use Rattle.blend.specs.Chain.{chain, chainFrom, fileBy, readAs, rowsOf}
-use Rattle.blend.specs.Rows.{rowTable}
-
--- block headers of two forms: code "DATA", size 0, address 1, index 2, count 3. In the New one only the address is in the file's order.
-blocks :
-    (run (blockHeader (record { «pointer_size» = Bits32; endianness = Big; version = record { major = 0; minor = 0 }; format = Legacy }))
-    (ascii "DATA" ++ (0 ∷ 0 ∷ 0 ∷ 0 ∷ 0 ∷ 0 ∷ 0 ∷ 1 ∷ 0 ∷ 0 ∷ 0 ∷ 2 ∷ 0 ∷ 0 ∷ 0 ∷ 3 ∷ [])) 0
-    ≡ read (record { code = 1145132097; size = 0; address = 1; index = 2; count = 3 }) 20)
-    × (run (blockHeader (record { «pointer_size» = Bits32; endianness = Big; version = record { major = 0; minor = 0 }; format = New }))
-    (ascii "DATA" ++ (2 ∷ 0 ∷ 0 ∷ 0 ∷ 0 ∷ 0 ∷ 0 ∷ 1 ∷ []) ++ replicate 8 0 ++ (3 ∷ []) ++ replicate 7 0) 0
-    ≡ read (record { code = 1145132097; size = 0; address = 1; index = 2; count = 3 }) 28)
-unfolding run blockHeader fields
-blocks = (refl, refl)
+use Rattle.block.specs.Rows.{rowTable}
 
 -- Document 01's example: a Principal "OB" with the payload "hull", and a DNA1 with a catalogue of 52 bytes.
 unfoldable hull : List ℕ

@@ -1,46 +1,17 @@
 -- The papers and the outcomes of the answers lose nothing: two answers that are told alike are the same answer.
 use Prim.Native.Nat.{ℕ}
-use mathlib.Core.List.{List, [], _∷_}
-use mathlib.Core.Path.{_≡_, refl, sym, _∙_, ap}
+use mathlib.Core.List.{List}
+use mathlib.Core.Path.{_≡_, _∙_, ap}
 use lib.ListN.{getD}
-use Rattle.bytes.specs.Paper.{Paper}
-use Rattle.bytes.specs.Paper.Paper.{accepts, integer, real, refuses}
 use Rattle.dna.specs.declared.dna.DnaCounts.{DnaCounts}
 use Rattle.header.specs.declared.Header.{Header}
-use Rattle.blend.specs.declared.Kind.{Kind}
-use Rattle.blend.specs.declared.Row.{Row}
 use Rattle.blend.specs.declared.blend.RawBlend.{RawBlend}
 use Rattle.blend.specs.declared.blend.BlendAnswer.{BlendAnswer}
 use Rattle.header.proofs.Lossless.{header-one}
-use Rattle.blend.specs.Blocks.{paperKind}
-use Rattle.blend.specs.Rows.{rowNumbers, rowSpelt}
 use Rattle.blend.specs.Chain.{countNumbers, paperBlend}
 
 counts-one : (m n : DnaCounts) → countNumbers m ≡ countNumbers n → m ≡ n
 counts-one m n e = ap (λ (l : List ℕ). record { names = getD l 0 0; types = getD l 1 0; structs = getD l 2 0; fields = getD l 3 0 }) e
-
-pub whole-row : (r q : Row) → rowNumbers r ≡ rowNumbers q → r ≡ q
-whole-row r q e = ap (λ (l : List ℕ). rowSpelt l 0) e
-
--- a kind by its number
-kindTold : Paper → Kind
-kindTold (accepts n vs) = getD (Kind.Rend ∷ Kind.Test ∷ Kind.Global ∷ Kind.Subsidiary ∷ Kind.Principal ∷ Kind.Dna ∷ []) n Kind.Unknown
-kindTold (integer z) = Kind.Unknown
-kindTold (real x) = Kind.Unknown
-kindTold (refuses n vs) = Kind.Unknown
-
-kind-back : (k : Kind) → kindTold (paperKind k) ≡ k
-unfolding kindTold
-kind-back Kind.Rend = refl
-kind-back Kind.Test = refl
-kind-back Kind.Global = refl
-kind-back Kind.Subsidiary = refl
-kind-back Kind.Principal = refl
-kind-back Kind.Dna = refl
-kind-back Kind.Unknown = refl
-
-pub whole-kind : (a b : Kind) → paperKind a ≡ paperKind b → a ≡ b
-whole-kind a b e = sym (kind-back a) ∙ ap kindTold e ∙ kind-back b
 
 -- the reader's answer
 blend-one : (a b : RawBlend) → a .header ≡ b .header → a .rows ≡ b .rows → a .end ≡ b .end → a .dna ≡ b .dna → a ≡ b

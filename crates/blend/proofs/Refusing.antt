@@ -1,7 +1,7 @@
 -- Why a file is not read is a cut, a wrong mark, or a refusal whose number is not 0: so a number 0 can tell that it was read.
 use Prim.Native.Nat.{ℕ, zero, suc, _+_}
 use mathlib.Core.Bool.{Bool, true, false}
-use mathlib.Core.List.{List, [], _∷_}
+use mathlib.Core.List.{List, []}
 use mathlib.Core.Path.{_≡_, refl, _∙_, ap}
 use native.Mathlib.Omega.{arith}
 use lib.Dec.{eqb}
@@ -9,40 +9,26 @@ use lib.ListN.{length}
 use Rattle.bytes.specs.declared.Fault.{Fault}
 use Rattle.bytes.specs.declared.Fault.the-variants.{Cut, Mark, Refusal}
 use Rattle.bytes.specs.Ascii.{ascii}
-use Rattle.bytes.specs.Number.{spelled}
 use Rattle.bytes.specs.Reader.{Reader, Outcome, run, then, stands}
 use Rattle.bytes.specs.Reader.Reader.{done, refuse, skip}
 use Rattle.bytes.specs.Reader.Outcome.{read, fault}
 use Rattle.bytes.proofs.Refusing.{Gives, given, gives-then}
 use Rattle.dna.specs.Catalogue.{Dna, catalogue}
 use Rattle.dna.proofs.Refusing.{catalogue-gives}
+use Rattle.block.proofs.Refusing.{block-header-gives}
 use Rattle.header.proofs.Refusing.{Counts, Told, stop-told, header-gives}
 use Rattle.header.specs.declared.Header.{Header}
-use Rattle.blend.specs.declared.BlockHeader.{BlockHeader}
-use Rattle.blend.specs.declared.Kind.{Kind}
-use Rattle.blend.specs.declared.Row.{Row}
+use Rattle.block.specs.declared.BlockHeader.{BlockHeader}
+use Rattle.block.specs.declared.Kind.{Kind}
+use Rattle.block.specs.declared.Row.{Row}
 use Rattle.blend.specs.declared.blend.Last.{Last}
 use Rattle.blend.specs.declared.blend.Boundary.{Boundary}
-use Rattle.header.specs.Layout.{Field, Item, layout}
-use Rattle.blend.specs.Blocks.{tested, fields, blockHeader, kindOf, taken, block, rowed, rowAt, payloadOf, catalogued, isDna, finished, onRow, boundaryOf}
-use Rattle.header.specs.Layout.Field.{size, address, index, count}
+use Rattle.block.specs.BlockHeaders.{blockHeader}
+use Rattle.block.specs.Kinds.{kindOf}
+use Rattle.blend.specs.Blocks.{taken, block, rowed, rowAt, catalogued, isDna, finished, onRow, boundaryOf}
+use Rattle.block.specs.Rows.{payloadOf}
 use Rattle.blend.specs.Chain.{ended, link, chain, chainFrom, onHeader, fileBy}
 use Rattle.header.specs.Header.{HeaderBytes, headerBytes, valued}
-
-tested-gives : {A : Type 0} (f : Field) (n : ℕ) (r : Reader A) → Gives Counts r → Gives Counts (tested f n r)
-tested-gives size n r w = w
-tested-gives index n r w = w
-tested-gives count n r w = w
-tested-gives {A} address n r w = go (eqb n 0)
-  where
-    go : (c : Bool) → Gives Counts {A = A} (elim c as (λ (d : Bool). Reader A) [ true ↦ refuse 3 | false ↦ r ])
-    go true = λ e. omega arith
-    go false = w
-
-fields-give : (is : List Item) (b : BlockHeader) → Gives Counts (fields is b)
-unfolding fields
-fields-give [] b = tt
-fields-give (i ∷ is) b = λ bs. tested-gives (i .field) (spelled (i .order) bs) _ (fields-give is _)
 
 taken-gives : (k : Kind) (n : ℕ) → Gives Counts (taken k n)
 taken-gives Kind.Rend n = tt
@@ -60,7 +46,7 @@ taken-gives Kind.Principal n = go (eqb n 1)
 block-gives : (h : Header) → Gives Counts (block h)
 unfolding block blockHeader
 block-gives h =
-    gives-then Counts (blockHeader h) (λ b. skip (b .size) (then (taken (kindOf (b .code)) (b .count)) (λ u. done b))) (λ bs. fields-give (layout h) _)
+    gives-then Counts (blockHeader h) (λ b. skip (b .size) (then (taken (kindOf (b .code)) (b .count)) (λ u. done b))) (block-header-gives h)
     (λ b. gives-then Counts (taken (kindOf (b .code)) (b .count)) (λ u. done b) (taken-gives (kindOf (b .code)) (b .count)) (λ u. tt))
 
 -- what stops at a boundary, a chain and a file

@@ -21,17 +21,20 @@ use Rattle.dna.specs.declared.dna.DnaCounts.{DnaCounts}
 use Rattle.dna.specs.declared.dna.DnaCounted.{DnaCounted}
 use Rattle.dna.specs.Catalogue.{Dna, catalogue, counts, countsOnly, outcomeOf}
 use Rattle.header.specs.declared.Header.{Header}
-use Rattle.blend.specs.declared.BlockHeader.{BlockHeader}
-use Rattle.blend.specs.declared.Row.{Row}
-use Rattle.blend.specs.declared.Kind.{Kind}
+use Rattle.block.specs.declared.BlockHeader.{BlockHeader}
+use Rattle.block.specs.declared.Row.{Row}
+use Rattle.block.specs.declared.Kind.{Kind}
 use Rattle.blend.specs.declared.blend.Last.{Last}
 use Rattle.blend.specs.declared.blend.Boundary.{Boundary}
 use Rattle.blend.specs.declared.blend.Taking.{Taking}
 use Rattle.header.specs.Layout.{blockHeaderLength}
-use Rattle.blend.specs.Blocks.{blockHeader, kindOf, taken, block, rowOf, rowed, rowAt, payloadOf, within, catalogued, isDna, finished, onRow, boundaryOf}
+use Rattle.block.specs.BlockHeaders.{blockHeader}
+use Rattle.block.specs.Kinds.{kindOf}
+use Rattle.blend.specs.Blocks.{taken, block, rowed, rowAt, within, catalogued, isDna, finished, onRow, boundaryOf}
+use Rattle.block.specs.Rows.{rowOf, payloadOf}
 use Rattle.blend.specs.Helpers.{taking}
 use Rattle.bytes.proofs.Parts.{skip-room}
-use Rattle.blend.proofs.Layouts.{block-header-moves}
+use Rattle.block.proofs.Layouts.{block-header-moves}
 
 -- a block, read by read
 module _ (h : Header) (s : List ℕ) (at : ℕ) where

@@ -1,67 +1,29 @@
--- A block header all of which is there: what its tree finds, and the row of a block that reads.
+-- The row of a block that reads is that of its header, and rows that are all there are read again one after another.
 use Prim.Native.Nat.{ℕ, suc, _+_, _-_, _≤_, _<_}
 use mathlib.Core.Bool.{Bool, true, false}
 use mathlib.Core.List.{List}
 use mathlib.Core.Path.{_≡_, refl, sym, _∙_, ap}
 use native.Mathlib.Omega.{arith}
 use lib.Dec.{eqb}
-use lib.ListN.{length}
-use Rattle.bytes.specs.declared.Endianness.{Endianness}
-use Rattle.bytes.specs.declared.Fault.{Fault}
+use lib.ListN.{length, take, drop}
 use Rattle.bytes.specs.declared.Fault.the-variants.{Refusal}
-use Rattle.bytes.specs.Helpers.{goOn, numberAt}
-use Rattle.bytes.specs.Reader.{Outcome, run}
-use Rattle.bytes.specs.Reader.Reader.{done, skip}
+use Rattle.bytes.specs.Helpers.{goOn}
+use Rattle.bytes.specs.Reader.{Outcome}
 use Rattle.bytes.specs.Reader.Outcome.{read, fault}
 use Rattle.bytes.proofs.Tests.{held, failed}
-use Rattle.header.specs.declared.FileFormat.{FileFormat}
-use Rattle.header.specs.declared.FileFormat.the-variants.{Legacy, New}
 use Rattle.header.specs.declared.Header.{Header}
-use Rattle.blend.specs.declared.BlockHeader.{BlockHeader}
-use Rattle.blend.specs.declared.Row.{Row}
-use Rattle.header.specs.Layout.{layoutOf, blockHeaderLength}
-use Rattle.blend.specs.Blocks.{blockHeader, rowOf, rowAt}
-use Rattle.blend.specs.Helpers.{tellAll, headerAt, withAddress, rowsFrom}
-use Rattle.blend.proofs.Layouts.{header-there}
-use Rattle.bytes.proofs.Parts.{skip-room, skip-short}
+use Rattle.block.proofs.There.{header-in}
+use Rattle.block.specs.Rows.{rowOf}
+use Rattle.block.specs.declared.BlockHeader.{BlockHeader}
+use Rattle.block.specs.declared.Row.{Row}
+use Rattle.header.specs.Layout.{blockHeaderLength}
+use Rattle.block.specs.BlockHeaders.{headerAt, headerIn}
+use Rattle.bytes.proofs.Parts.{slice-same}
+use Rattle.blend.specs.Blocks.{rowAt}
+use Rattle.block.specs.Helpers.{withAddress}
+use Rattle.blend.specs.Helpers.{rowsFrom}
+use Rattle.block.proofs.Layouts.{header-there}
 use Rattle.blend.proofs.Rows.{row-headed, payload-fits, row-lies}
-
--- a block header by its numbers
-pub told-again : (f : FileFormat) (p : ℕ) (e : Endianness) (s : List ℕ) (at : ℕ) (b : BlockHeader)
-    → record {
-      code = b .code;
-      size = tellAll (layoutOf f p e) s at b .size;
-      address = tellAll (layoutOf f p e) s at b .address;
-      index = tellAll (layoutOf f p e) s at b .index;
-      count = tellAll (layoutOf f p e) s at b .count;
-    } ≡ tellAll (layoutOf f p e) s at b
-told-again Legacy p e s at b = refl
-told-again New p e s at b = refl
-
-pub address-of : (f : FileFormat) (p : ℕ) (e : Endianness) (s : List ℕ) (at : ℕ) (b : BlockHeader) → tellAll (layoutOf f p e) s (at + 4) b .address ≡ numberAt e p s (at + 8)
-address-of f p e s at b =
-    let q : at + 4 + 4 ≡ at + 8 = omega arith in
-    go f ∙ ap (numberAt e p s) q
-  where
-    go : (f : FileFormat) → tellAll (layoutOf f p e) s (at + 4) b .address ≡ numberAt e p s (at + 4 + 4)
-    go Legacy = refl
-    go New = refl
-
--- a block header that was passed over is there
-module _ (h : Header) (s : List ℕ) (at n : ℕ) (e : n ≡ blockHeaderLength (h .format) (h .«pointer_size»)) (next : ℕ)
-    (g : _≡_ {A = Outcome (Unit {0})} (read tt next) (run (skip n (done tt)) s at)) where
-  pub header-fits : at + blockHeaderLength (h .format) (h .«pointer_size») ≤ length s
-  header-fits = rw e at (skip-room n s at next g .1)
-
-  pub header-taken : (b : BlockHeader) → b ≡ headerAt h s at → withAddress b next ≡ run (blockHeader h) s at
-  header-taken b q =
-      let k : next ≡ at + blockHeaderLength (h .format) (h .«pointer_size») = rw e at (skip-room n s at next g .0) in
-      rw (q, k) (header-there h s at header-fits)
-
--- and one that could not be is not
-pub header-not-there : (h : Header) (s : List ℕ) (at n : ℕ) → n ≡ blockHeaderLength (h .format) (h .«pointer_size»)
-    → (x : Fault) → _≡_ {A = Outcome (Unit {0})} (fault x) (run (skip n (done tt)) s at) → length s < at + blockHeaderLength (h .format) (h .«pointer_size»)
-header-not-there h s at n e x g = rw e at (skip-short n s at x g .1)
 
 -- a block that reads: its header is there, and its row is made of that
 module _ (h : Header) (s : List ℕ) (at : ℕ) (r : Row) (next : ℕ) (g : rowAt h s at ≡ read r next) where
@@ -85,6 +47,11 @@ module _ (h : Header) (s : List ℕ) (at : ℕ) (r : Row) (next : ℕ) (g : rowA
           cc
 
 -- Rows that are all there: the next, and those after it.
+pub record NextRow (h : Header) (s : List ℕ) (left at : ℕ) (r : Row) (next : ℕ) : Type 0 where
+  pub row : rowAt h s at ≡ read r next
+  pub rest : length (rowsFrom (left - 1) h s next) ≡ left - 1
+  pub inside : next ≤ length s
+
 module _ (h : Header) (s : List ℕ) (left at : ℕ) (e : 0 < left) (g : length (rowsFrom left h s at) ≡ left) where
   next-row : (r : Row) × (next : ℕ) × (rowAt h s at ≡ read r next) × (length (rowsFrom (left - 1) h s next) ≡ left - 1)
   unfolding rowsFrom
@@ -98,14 +65,19 @@ module _ (h : Header) (s : List ℕ) (left at : ℕ) (e : 0 < left) (g : length 
       go (read r next) t k = (r, next, t, omega arith)
       go (fault x) t k = absurd (omega arith)
 
-  pub next-fits : at + blockHeaderLength (h .format) (h .«pointer_size») ≤ length s
-  next-fits = row-header-fits h s at (next-row .0) (next-row .1) (next-row .2)
+  module _ (n : ℕ) (k : n ≡ blockHeaderLength (h .format) (h .«pointer_size»)) where
+    pub next-fits : at + n ≤ length s
+    next-fits = rw k (row-header-fits h s at (next-row .0) (next-row .1) (next-row .2))
 
-  pub next-is : (r : Row) → r ≡ rowOf h at (headerAt h s at)
-      → (rowAt h s at ≡ read r (r .payload + r .len)) × (length (rowsFrom (left - 1) h s (r .payload + r .len)) ≡ left - 1) × (r .payload + r .len ≤ length s)
-  next-is r q =
-      let w = next-row in
-      let l = row-lies h s at (w .0) (w .1) (w .2) in
-      let z : w .0 ≡ r = row-there h s at (w .0) (w .1) (w .2) ∙ sym q in
-      let n : w .1 ≡ r .payload + r .len = l .payload ∙ ap (λ (v : Row). v .payload + v .len) z in
-      (rw (z, n) at (w .2), rw n at (w .3), rw n at (l .inside))
+    -- the block header in its bytes, and the row that is made of it
+    module _ (b : BlockHeader) (q : b ≡ headerIn h (take (at + n - at) (drop at s))) where
+      next-header : b ≡ headerAt h s at
+      next-header = q ∙ ap (headerIn h) (slice-same s at n ∙ ap (λ (m : ℕ). take m (drop at s)) k) ∙ header-in h s at (rw k at next-fits)
+
+      pub next-is : (r : Row) → r ≡ record { code = b .code; address = b .address; index = b .index; count = b .count; at = at; payload = at + n; len = b .size } → NextRow h s left at r (at + n + b .size)
+      next-is r m =
+          let w = next-row in
+          let l = row-lies h s at (w .0) (w .1) (w .2) in
+          let z : w .0 ≡ r = row-there h s at (w .0) (w .1) (w .2) ∙ ap (rowOf h at) (sym next-header) ∙ sym (m ∙ rw k refl) in
+          let p : w .1 ≡ at + n + b .size = l .payload ∙ ap (λ (v : Row). v .payload + v .len) (z ∙ m) in
+          record { row = rw (z, p) at (w .2); rest = rw p at (w .3); inside = rw p at (l .inside) }

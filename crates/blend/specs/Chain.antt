@@ -13,13 +13,13 @@ use Rattle.bytes.specs.Refusals.{noDnaBlockFound, blockTableTooShort, paperFaul
 use Rattle.bytes.specs.Tables.{written}
 use Rattle.dna.specs.declared.dna.DnaCounts.{DnaCounts}
 use Rattle.header.specs.declared.Header.{Header}
-use Rattle.blend.specs.declared.Row.{Row}
+use Rattle.block.specs.declared.Row.{Row}
 use Rattle.blend.specs.declared.blend.Last.{Last}
 use Rattle.blend.specs.declared.blend.Boundary.{Boundary}
 use Rattle.blend.specs.declared.blend.BlendAnswer.{BlendAnswer}
 use Rattle.header.specs.Header.{HeaderBytes, valued, headerNumbers}
 use Rattle.blend.specs.Blocks.{boundaryOf}
-use Rattle.blend.specs.Rows.{perRow, rowTable}
+use Rattle.block.specs.Rows.{perRow, rowTable}
 
 -- The rows up to the end mark or to the earliest fault; and the counts of the last DNA1 with the offset after the end mark, or the fault, 6 included.
 pub record Chain : Type 0 where

@@ -1,8 +1,8 @@
 // Lists the blocks of the file that standard input has.
-use blend::Row;
 use blend::blend::BlendAnswer;
 use blend::blend::RawBlend;
 use blend::blend::blend;
+use block::Row;
 use bytes::Endianness;
 use bytes::PointerSize;
 use header::FileFormat;

@@ -19,9 +19,9 @@ use Rattle.dna.specs.declared.dna.DnaCounts.{DnaCounts}
 use Rattle.blend.specs.declared.blend.RawBlend.{RawBlend}
 use Rattle.blend.specs.declared.blend.BlendAnswer.{BlendAnswer}
 use Rattle.blend.specs.Chain.{File, answerFor, readAs, rowsOf, tableAfter, paperBlend}
-use Rattle.blend.specs.Rows.{perRow, rowTable, rowsSpelt}
+use Rattle.block.specs.Rows.{perRow, rowTable, rowsSpelt}
 use Rattle.blend.proofs.Lossless.{whole-blend}
-use Rattle.blend.proofs.Tables.{all-rows}
+use Rattle.block.proofs.Tables.{all-rows}
 use Rattle.demands.specs.Answers.{rowsIn}
 
 -- the answer that a file's reading has, where the table has room

@@ -10,7 +10,7 @@ use Rattle.bytes.specs.Reader.{Reader, run}
 use Rattle.bytes.specs.Reader.Outcome.{read}
 use Rattle.dna.specs.declared.dna.DnaCounts.{DnaCounts}
 use Rattle.header.specs.declared.Header.{Header}
-use Rattle.blend.specs.declared.Row.{Row}
+use Rattle.block.specs.declared.Row.{Row}
 use Rattle.blend.specs.declared.blend.Last.{Last}
 use Rattle.blend.specs.declared.blend.RawBlend.{RawBlend}
 use Rattle.blend.specs.declared.blend.BlendAnswer.{BlendAnswer}

@@ -11,20 +11,21 @@ use Rattle.bytes.specs.Number.{spelled}
 use Rattle.bytes.proofs.Marks.{same-eq}
 use Rattle.dna.specs.declared.dna.DnaCounts.{DnaCounts}
 use Rattle.header.specs.declared.Header.{Header}
-use Rattle.blend.specs.declared.Row.{Row}
+use Rattle.block.specs.declared.Row.{Row}
 use Rattle.blend.specs.declared.blend.Last.{Last}
 use Rattle.blend.specs.declared.blend.Boundary.{Boundary}
 use Rattle.header.specs.Layout.{layout, blockHeaderLength}
-use Rattle.blend.specs.Blocks.{rowOf, payloadOf, boundaryOf}
+use Rattle.block.specs.Rows.{rowOf, payloadOf}
+use Rattle.blend.specs.Blocks.{boundaryOf}
 use Rattle.blend.proofs.Chains.{block-row, block-lies, mark-stands}
 use Rattle.header.proofs.Lengths.{header-at-least, layout-length}
 use Rattle.blend.proofs.Rows.{row-headed, payload-at}
 use Rattle.bytes.proofs.Parts.{part-long, skip-room, part-part}
 use Rattle.demands.specs.Cover.{Abut, blocksPart, blockHeaderPart, Block, Blocks}
-use Rattle.blend.specs.Spelling.{told}
+use Rattle.block.specs.Spelling.{told}
 use Rattle.bytes.specs.Looks.{part}
 use Rattle.blend.proofs.Links.{Linked, no-mark, mark-ends}
-use Rattle.blend.proofs.Spelling.{code-spelt, numbers-spelt, spell-part}
+use Rattle.block.proofs.Spelling.{code-spelt, numbers-spelt, spell-part}
 
 module _ (h : Header) (s : List ℕ) where
   abbrev long : ℕ

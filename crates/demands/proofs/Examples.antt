@@ -17,9 +17,11 @@ use Rattle.field.specs.Declarators.{isFunction, taken, groups, spanned, digits,
 use Rattle.header.specs.declared.Header.{Header}
 use Rattle.header.specs.declared.blend.HeaderAnswer.{HeaderAnswer}
 use Rattle.blend.specs.declared.blend.BlendAnswer.{BlendAnswer}
-use Rattle.blend.specs.Blocks.{fields, blockHeader, kindOf, block, rowAt, finished, boundaryOf}
+use Rattle.block.specs.BlockHeaders.{fields, blockHeader}
+use Rattle.block.specs.Kinds.{kindOf}
+use Rattle.blend.specs.Blocks.{block, rowAt, finished, boundaryOf}
 use Rattle.blend.specs.Chain.{chain, chainFrom, fileBy, readAs}
-use Rattle.blend.specs.Rows.{rowTable, rowsSpelt}
+use Rattle.block.specs.Rows.{rowTable, rowsSpelt}
 use Rattle.header.specs.Header.{decimal as versionDecimal, legacy, new, headerBytes, valued, headerAs}
 use Rattle.header.proofs.Lossless.{whole-header}
 use Rattle.header.specs.declared.FileFormat.{FileFormat}

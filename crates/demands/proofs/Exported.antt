@@ -22,7 +22,7 @@ use Rattle.blend.specs.declared.blend.RawBlend.{RawBlend}
 use Rattle.blend.specs.declared.blend.BlendAnswer.{BlendAnswer}
 use Rattle.blend.specs.Calls.{Answers}
 use Rattle.blend.specs.Chain.{Chain, File, fileBy, answerFor, readAs, paperBlend}
-use Rattle.blend.specs.Rows.{perRow}
+use Rattle.block.specs.Rows.{perRow}
 use Rattle.header.specs.Header.{headerBytes, order}
 use Rattle.blend.proofs.Refusing.{header-told, file-told}
 use Rattle.exports.specs.declared.BlendRead.{BlendRead}

@@ -15,13 +15,16 @@ use Rattle.bytes.proofs.Reading.{skipped}
 use Rattle.dna.specs.declared.dna.DnaCounts.{DnaCounts}
 use Rattle.dna.specs.Catalogue.{catalogue}
 use Rattle.header.specs.declared.Header.{Header}
-use Rattle.blend.specs.declared.BlockHeader.{BlockHeader}
-use Rattle.blend.specs.declared.Row.{Row}
-use Rattle.blend.specs.declared.Kind.{Kind}
+use Rattle.block.specs.declared.BlockHeader.{BlockHeader}
+use Rattle.block.specs.declared.Row.{Row}
+use Rattle.block.specs.declared.Kind.{Kind}
 use Rattle.blend.specs.declared.blend.Last.{Last}
 use Rattle.blend.specs.declared.blend.Boundary.{Boundary}
 use Rattle.header.specs.Layout.{Field, Item, layout, blockHeaderLength}
-use Rattle.blend.specs.Blocks.{tested, fields, blockHeader, codeNumber, isPrincipal, kindOf, taken, block, rowed, rowAt, payloadOf, catalogued, isDna, finished, boundaryOf}
+use Rattle.block.specs.BlockHeaders.{tested, fields, blockHeader}
+use Rattle.block.specs.Kinds.{codeNumber, isPrincipal, kindOf}
+use Rattle.blend.specs.Blocks.{taken, block, rowed, rowAt, catalogued, isDna, finished, boundaryOf}
+use Rattle.block.specs.Rows.{payloadOf}
 use Rattle.header.specs.Layout.Field.{size, address, index, count}
 use Rattle.blend.proofs.Chains.{block-row, block-lies, mark-stands, mark-room}
 use Rattle.header.proofs.Lengths.{header-at-least}

@@ -24,12 +24,12 @@ use Rattle.bytes.proofs.Refusing.{numberOf, fault-told}
 use Rattle.bytes.proofs.Tests.{held, failed}
 use Rattle.primitive.proofs.Values.{float-bits}
 use Rattle.dna.specs.declared.dna.DnaCounts.{DnaCounts}
-use Rattle.blend.specs.declared.Kind.{Kind}
-use Rattle.blend.specs.declared.Row.{Row}
+use Rattle.block.specs.declared.Kind.{Kind}
+use Rattle.block.specs.declared.Row.{Row}
 use Rattle.blend.specs.declared.blend.BlendAnswer.{BlendAnswer}
-use Rattle.blend.specs.Blocks.{kindOf}
+use Rattle.block.specs.Kinds.{kindOf}
 use Rattle.blend.specs.Chain.{File, fileBy, answerFor, readAs, rowsOf, paperBlend}
-use Rattle.blend.specs.Rows.{perRow}
+use Rattle.block.specs.Rows.{perRow}
 use Rattle.header.specs.Header.{headerBytes}
 use Rattle.walker.specs.Walker.{Stepped, start, Stop, Walk}
 use Rattle.walker.specs.Walker.Stop.{ended, refused}

@@ -18,17 +18,18 @@ use Rattle.dna.specs.declared.dna.DnaCounts.{DnaCounts}
 use Rattle.dna.specs.Catalogue.{Dna, rooms, catalogue, readAs as catalogueAs, rowsOf as catalogueRows, pairs, typeRows, structRows, fieldRows}
 use Rattle.dna.proofs.Lossless.{whole-tables}
 use Rattle.header.specs.declared.Header.{Header}
-use Rattle.blend.specs.declared.Row.{Row}
+use Rattle.block.specs.declared.Row.{Row}
 use Rattle.blend.specs.declared.blend.Last.{Last}
 use Rattle.blend.specs.declared.blend.RawBlend.{RawBlend}
 use Rattle.blend.specs.declared.blend.BlendAnswer.{BlendAnswer}
-use Rattle.blend.specs.Blocks.{codeNumber, kindOf, isDna, payloadOf}
+use Rattle.block.specs.Kinds.{codeNumber, kindOf}
+use Rattle.blend.specs.Blocks.{isDna}
+use Rattle.block.specs.Rows.{payloadOf, Column, perRow, rowTable, cell, none, rowSpelt}
 use Rattle.blend.specs.Calls.{Answers}
 use Rattle.blend.specs.Chain.{Chain, File, chain, chainFrom, onHeader, fileBy, readAs, tableAfter}
-use Rattle.blend.specs.Rows.{Column, perRow, rowTable, cell, none, rowSpelt}
 use Rattle.header.specs.Header.{HeaderBytes, headerBytes, valued}
 use Rattle.runtime.specs.Views.{isThere, viewAs, partAs}
-use Rattle.blend.proofs.Tables.{table-length, row-at}
+use Rattle.block.proofs.Tables.{table-length, row-at}
 use Rattle.blend.proofs.Chains.{block-lies}
 use Rattle.blend.proofs.Lossless.{whole-blend}
 use Rattle.demands.specs.Answers.{HeaderTree, rowsIn}

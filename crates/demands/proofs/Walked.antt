@@ -10,10 +10,12 @@ use Rattle.bytes.specs.Reader.{Outcome, run}
 use Rattle.bytes.specs.Reader.Outcome.{read, fault}
 use Rattle.dna.specs.declared.dna.DnaCounts.{DnaCounts}
 use Rattle.header.specs.declared.Header.{Header}
-use Rattle.blend.specs.declared.Row.{Row}
+use Rattle.block.specs.declared.Row.{Row}
 use Rattle.blend.specs.declared.blend.Last.{Last}
 use Rattle.walker.specs.declared.Place.{Place}
-use Rattle.blend.specs.Blocks.{codeNumber, kindOf, isDna, payloadOf}
+use Rattle.block.specs.Kinds.{codeNumber, kindOf}
+use Rattle.blend.specs.Blocks.{isDna}
+use Rattle.block.specs.Rows.{payloadOf, none}
 use Rattle.blend.specs.Chain.{File, fileBy, rowsOf}
 use Rattle.header.specs.Header.{headerLength, headerBytes, valued, headerAs}
 use Rattle.walker.specs.Walker.{Stepped, start, Stop, Walk}
@@ -21,7 +23,6 @@ use Rattle.walker.specs.Walker.Stop.{ended}
 use Rattle.walker.proofs.Walks.{stopOf, stopBy, walks, one-walk}
 use Rattle.held.specs.declared.Walker.{Walker}
 use Rattle.held.specs.Calls as held
-use Rattle.blend.specs.Rows.{none}
 use Rattle.held.specs.Walks.{HeldWalk}
 use Rattle.held.proofs.Walks.{plain-walk, held-walk}
 use Rattle.demands.specs.Cover.{Covered, EveryBlockWalked, EveryBlockHeld}

@@ -8,9 +8,11 @@ use Rattle.bytes.specs.Reader.{run, then, times}
 use Rattle.dna.specs.Catalogue.{catalogue, listed, strings, sized, struct, structured, fieldCount}
 use Rattle.blend.specs.declared.blend.RawBlend.{RawBlend}
 use Rattle.blend.specs.declared.blend.BlendAnswer.{BlendAnswer}
-use Rattle.blend.specs.Blocks.{fields, blockHeader, kindOf, block, rowAt, finished, boundaryOf}
+use Rattle.block.specs.BlockHeaders.{fields, blockHeader}
+use Rattle.block.specs.Kinds.{kindOf}
+use Rattle.blend.specs.Blocks.{block, rowAt, finished, boundaryOf}
 use Rattle.blend.specs.Chain.{chain, chainFrom, readAs}
-use Rattle.blend.specs.Rows.{rowTable, rowsSpelt}
+use Rattle.block.specs.Rows.{rowTable, rowsSpelt}
 use Rattle.header.specs.Header.{decimal as versionDecimal, legacy, new, headerBytes}
 use Rattle.blend.specs.Calls.{Answers}
 use Rattle.demands.specs.Cover.{blocksPart, Cover}

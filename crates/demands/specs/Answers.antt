@@ -6,9 +6,9 @@ use mathlib.Core.Path.{_≡_}
 use lib.ListN.{take}
 use Rattle.bytes.specs.Reader.{Reader, run}
 use Rattle.bytes.specs.Reader.Outcome.{read}
-use Rattle.blend.specs.declared.Row.{Row}
+use Rattle.block.specs.declared.Row.{Row}
 use Rattle.header.specs.Header.{HeaderBytes, headerLength}
-use Rattle.blend.specs.Rows.{rowsSpelt}
+use Rattle.block.specs.Rows.{rowsSpelt}
 
 -- the first n rows that a table holds
 abbrev pub rowsIn : List ℕ → ℕ → List Row

@@ -5,7 +5,7 @@ use mathlib.Core.List.{List, [], _∷_, _++_}
 use mathlib.Core.Path.{_≡_}
 use denote.Ref.{RefT, now}
 use lib.ListN.{length, take}
-use Rattle.blend.specs.Spelling.{told, Spell}
+use Rattle.block.specs.Spelling.{told, Spell}
 use Rattle.bytes.specs.Looks.{part}
 use Rattle.bytes.specs.declared.Endianness.the-variants.{Big}
 use Rattle.bytes.specs.Ascii.{ascii}
@@ -14,12 +14,12 @@ use Rattle.bytes.specs.PointerSize.{pointerBytes}
 use Rattle.bytes.specs.Reader.{Reader, Outcome, run, stands}
 use Rattle.bytes.specs.Reader.Outcome.{read}
 use Rattle.header.specs.declared.Header.{Header}
-use Rattle.blend.specs.declared.Row.{Row}
+use Rattle.block.specs.declared.Row.{Row}
 use Rattle.header.specs.declared.blend.HeaderAnswer.{HeaderAnswer}
 use Rattle.blend.specs.declared.blend.BlendAnswer.{BlendAnswer}
 use Rattle.header.specs.Header.{HeaderBytes, headerLength, headerBytes, valued, edition, order}
 use Rattle.header.specs.Layout.{layout, blockHeaderLength}
-use Rattle.blend.specs.Blocks.{payloadOf}
+use Rattle.block.specs.Rows.{payloadOf}
 use Rattle.blend.specs.Calls.{Answers}
 use Rattle.header.specs.Calls.{«blend::header»}
 use Rattle.walker.specs.Calls.{«Place::step»}

@@ -13,13 +13,13 @@ use Rattle.primitive.specs.declared.primitive.ValueF64.{ValueF64}
 use Rattle.bytes.specs.Ascii.{ascii}
 use Rattle.primitive.specs.Calls as primitive
 use Rattle.bytes.specs.Number.{Bytes, spelled}
-use Rattle.blend.specs.declared.Kind.{Kind}
-use Rattle.blend.specs.declared.Row.{Row}
+use Rattle.block.specs.declared.Kind.{Kind}
+use Rattle.block.specs.declared.Row.{Row}
 use Rattle.blend.specs.declared.blend.BlendAnswer.{BlendAnswer}
-use Rattle.blend.specs.Blocks.{kindOf}
+use Rattle.block.specs.Kinds.{kindOf}
 use Rattle.blend.specs.Calls as blend
 use Rattle.walker.specs.Calls as walker
-use Rattle.blend.specs.Rows.{rowTable, spelt}
+use Rattle.block.specs.Rows.{rowTable, spelt}
 use Rattle.walker.specs.Walker.{start, Stop, Walk}
 use Rattle.walker.specs.Walker.Stop.{ended, refused}
 use Rattle.runtime.specs.declared.runtime.BlockCode.{BlockCode}

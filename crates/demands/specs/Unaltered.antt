@@ -14,11 +14,12 @@ use Rattle.bytes.specs.Reader.{Reader, Outcome, run}
 use Rattle.bytes.specs.Tables.{over}
 use Rattle.dna.specs.declared.dna.DnaTables.{DnaTables}
 use Rattle.dna.specs.Catalogue.{catalogue, Filled}
-use Rattle.blend.specs.declared.Row.{Row}
+use Rattle.block.specs.declared.Row.{Row}
 use Rattle.header.specs.declared.Header.{Header}
 use Rattle.header.specs.declared.blend.HeaderAnswer.{HeaderAnswer}
 use Rattle.blend.specs.declared.blend.BlendAnswer.{BlendAnswer}
-use Rattle.blend.specs.Blocks.{codeNumber, payloadOf}
+use Rattle.block.specs.Kinds.{codeNumber}
+use Rattle.block.specs.Rows.{payloadOf, Column, cell, none}
 use Rattle.blend.specs.Calls.{Answers}
 use Rattle.header.specs.Calls.{«blend::header»}
 use Rattle.walker.specs.Calls.{«Place::step»}
@@ -26,7 +27,6 @@ use Rattle.blend.specs.Chain.{File, fileBy}
 use Rattle.header.specs.Header.{HeaderBytes, headerBytes}
 use Rattle.walker.specs.Walker.{start, Walk}
 use Rattle.walker.specs.Walker.Stop.{ended}
-use Rattle.blend.specs.Rows.{Column, cell, none}
 use Rattle.runtime.specs.Views.{viewAs, partAs}
 use Rattle.held.specs.declared.Walker.{Walker}
 use Rattle.held.specs.Calls as held

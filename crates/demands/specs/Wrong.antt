@@ -8,11 +8,10 @@ use Rattle.bytes.specs.declared.Fault.the-variants.{Mark}
 use Rattle.bytes.specs.Reader.{Reader, Outcome}
 use Rattle.bytes.specs.Reader.Outcome.{read, fault}
 use Rattle.dna.specs.declared.dna.DnaCounts.{DnaCounts}
-use Rattle.blend.specs.declared.Row.{Row}
-use Rattle.blend.specs.Blocks.{payloadOf}
+use Rattle.block.specs.declared.Row.{Row}
+use Rattle.block.specs.Rows.{payloadOf, none}
 use Rattle.blend.specs.Chain.{File, fileBy}
 use Rattle.header.specs.Header.{HeaderBytes}
-use Rattle.blend.specs.Rows.{none}
 
 -- one that looks at a payload's byte: it refuses a file whose first block's payload begins with a zero
 abbrev peek : List ℕ → Outcome File → Outcome File

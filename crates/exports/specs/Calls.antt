@@ -10,7 +10,7 @@ use Rattle.dna.specs.Catalogue.{catalogue}
 use Rattle.field.specs.Declarators.{declared, parsedAs, filledBy, widthAs}
 use Rattle.header.specs.Header.{headerBytes, valued, headerAs}
 use Rattle.blend.specs.Chain.{fileBy, readAs, tableAfter}
-use Rattle.blend.specs.Rows.{Column, perRow, cell}
+use Rattle.block.specs.Rows.{Column, perRow, cell}
 use Rattle.runtime.specs.Views.{viewAs}
 use Rattle.runtime.specs.Addresses.{lookupAs}
 use Rattle.exports.specs.declared.BlendHeader.{BlendHeader}

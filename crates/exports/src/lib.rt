@@ -1,10 +1,10 @@
 // The library for other languages: numbers and slices in, a struct of numbers by value out. Each function calls one of the reader's and tells its answer
 // in numbers, refusals by document 01's; the contract says so by the reader's own definitions. A slice crosses as a pointer and a length. blend.h says what each
 // function is for.
-use blend::Row;
 use blend::blend::BlendAnswer;
 use blend::blend::RawBlend;
 use blend::blend::blend;
+use block::Row;
 use bytes::Endianness;
 use bytes::Fault;
 use bytes::PointerSize;

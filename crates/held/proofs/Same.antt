@@ -10,10 +10,10 @@ use lib.Dec.{ltb, eqb}
 use lib.ListN.{length, getD}
 use Rattle.bytes.specs.Paper.{Paper}
 use Rattle.bytes.specs.Refusals.{notThere}
-use Rattle.blend.specs.declared.Row.{Row}
+use Rattle.block.specs.declared.Row.{Row}
 use Rattle.runtime.specs.Addresses.{matches, null, found, seek, lookupAs}
-use Rattle.blend.specs.Rows.{perRow, Column, rowTable, cell, none, rowSpelt, spelt}
-use Rattle.blend.proofs.Tables.{rows-many, row-at, spells}
+use Rattle.block.specs.Rows.{perRow, Column, rowTable, cell, none, rowSpelt, spelt}
+use Rattle.block.proofs.Tables.{rows-many, row-at, spells}
 use Rattle.held.specs.Held.{rowIs, lookupRows}
 
 -- a search is the same by two tests that agree on the rows that are searched

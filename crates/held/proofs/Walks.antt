@@ -3,7 +3,7 @@ use Prim.Native.Nat.{ℕ}
 use mathlib.Core.List.{List, [], _∷_}
 use mathlib.Core.Path.{refl, subst}
 use denote.Ref.{RefT, now}
-use Rattle.blend.specs.declared.Row.{Row}
+use Rattle.block.specs.declared.Row.{Row}
 use Rattle.walker.specs.declared.Place.{Place}
 use Rattle.header.specs.Header.{headerBytes}
 use Rattle.walker.specs.Walker.{Stepped, Stop, Walk}

@@ -6,9 +6,9 @@ use lib.Dec.{ltb, eqb}
 use lib.ListN.{length, getD}
 use Rattle.bytes.specs.Paper.{Paper}
 use Rattle.bytes.specs.Refusals.{notThere}
-use Rattle.blend.specs.declared.Row.{Row}
+use Rattle.block.specs.declared.Row.{Row}
 use Rattle.runtime.specs.Addresses.{matches, null, seek}
-use Rattle.blend.specs.Rows.{none}
+use Rattle.block.specs.Rows.{none}
 
 -- whether a row is of a kind that is searched, and has this address
 abbrev pub rowIs : ℕ → Row → Bool

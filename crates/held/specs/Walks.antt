@@ -1,7 +1,7 @@
 -- A walk by a walker that holds its file, from where it stands: these rows, one after another, and then the stop. After a block the walker is moved to the place
 -- that the step handed back.
 use mathlib.Core.List.{List, [], _∷_}
-use Rattle.blend.specs.declared.Row.{Row}
+use Rattle.block.specs.declared.Row.{Row}
 use Rattle.walker.specs.declared.Place.{Place}
 use Rattle.walker.specs.declared.Step.{Step}
 use Rattle.walker.specs.Walker.{Stop, stopped}

@@ -1,6 +1,6 @@
 // Two calls of the reader in forms that hold references: a walker that holds the file's slice, and the search for an address in a lent list of
 // row records. Each is thin: what matters is in the crate `blend`, on plain parameters.
-use blend::Row;
+use block::Row;
 use bytes::Fault;
 use runtime::runtime::Pointer;
 use runtime::runtime::matches;

@@ -30,7 +30,7 @@ use Rattle.walker.specs.declared.Place.{Place}
 use Rattle.header.specs.Calls.{«FileFormat::header_len», «FileFormat::block_header_len»}
 use Rattle.blend.specs.Calls.{«blend::blend»}
 use Rattle.blend.specs.Chain.{fileBy, readAs, paperBlend}
-use Rattle.blend.specs.Rows.{perRow}
+use Rattle.block.specs.Rows.{perRow}
 use Rattle.header.specs.Header.{headerBytes}
 use Rattle.exports.specs.declared.BlendField.{BlendField}
 use Rattle.exports.specs.declared.BlendCatalogue.{BlendCatalogue}
@@ -43,6 +43,7 @@ use Rattle.primitive.proofs as primitive
 use Rattle.field.proofs as field
 use Rattle.dna.proofs as dna
 use Rattle.header.proofs as header
+use Rattle.block.proofs as block
 use Rattle.blend.proofs as blend
 use Rattle.walker.proofs as walker
 use Rattle.runtime.proofs as runtime
@@ -53,14 +54,15 @@ use Rattle.bytes.proofs.Lossless.{at-one, one-refusal, whole-numbered, whole-mo
 use Rattle.primitive.proofs.Lossless.{whole-u8, whole-u16, whole-u32, whole-u64, whole-i8, whole-i16, whole-i32, whole-i64, whole-f32, whole-f64}
 use Rattle.field.proofs.Lossless.{whole-field, whole-function, whole-width}
 use Rattle.dna.proofs.Lossless.{one-filling, whole-counted as wholeCountedDna}
-use Rattle.blend.proofs.Lossless.{whole-kind, whole-blend}
+use Rattle.block.proofs.Lossless.{whole-kind, whole-block-header}
+use Rattle.blend.proofs.Lossless.{whole-blend}
 use Rattle.header.proofs.Lossless.{whole-pointer-size, whole-endianness, whole-version, whole-header}
 use Rattle.walker.proofs.Lossless.{whole-step}
 use Rattle.runtime.proofs.Lossless.{whole-view, whole-pointer, whole-code}
 use Rattle.held.specs.declared.Walker.{Walker}
 use Rattle.promises.specs.Keeps.{Says, Keeps, Holds}
 use Rattle.promises.specs.Calls.{PublicCall, Refused, Nonzero, publicCall}
-use Rattle.promises.specs.Calls.PublicCall.{«bytes::PointerSize::bytes_num», «bytes::Fault::refusal», «bytes::cursor::Width::bytes_num», «bytes::cursor::stands_at», «bytes::cursor::before», «bytes::cursor::Cursor::new», «bytes::cursor::Cursor::number», «bytes::cursor::Cursor::skip», «bytes::cursor::Cursor::bytes», «bytes::cursor::Cursor::part», «bytes::cursor::Cursor::mark», «bytes::cursor::Cursor::begins», «bytes::cursor::Cursor::string», «primitive::primitive::parse_u8», «primitive::primitive::parse_u16», «primitive::primitive::parse_u32», «primitive::primitive::parse_u64», «primitive::primitive::parse_char», «primitive::primitive::parse_i8», «primitive::primitive::parse_i16», «primitive::primitive::parse_i32», «primitive::primitive::parse_i64», «primitive::primitive::parse_f32», «primitive::primitive::parse_f64», «primitive::primitive::blender_name_char», «primitive::primitive::blender_name_i8», «primitive::primitive::blender_name_u8», «primitive::primitive::blender_name_u16», «primitive::primitive::blender_name_i16», «primitive::primitive::blender_name_i32», «primitive::primitive::blender_name_u32», «primitive::primitive::blender_name_f32», «primitive::primitive::blender_name_f64», «primitive::primitive::blender_name_u64», «primitive::primitive::blender_name_i64», «field::field::fn_pointer», «field::field::scan_field», «field::field::parse_field», «field::field::width», «dna::dna::dna_counts», «dna::dna::dna», «header::FileFormat::header_len», «header::FileFormat::block_header_len», «header::Header::new», «blend::BlockHeader::new», «blend::Kind::of_code», «blend::About::new», «blend::Kind::about», «header::blend::pointer_size», «header::blend::endianness», «header::blend::version», «header::blend::header», «header::blend::refusal_of», «blend::blend::block_header_code», «blend::blend::boundary_at», «blend::blend::blend», «walker::Place::start», «walker::Place::step», «runtime::runtime::view», «runtime::runtime::view_part», «runtime::runtime::matches», «runtime::runtime::get_ptr», «runtime::runtime::code», «held::step_at», «held::over», «held::next», «held::moved», «held::step_from», «held::row_is», «held::find_row», «held::find_in», «exports::blend_header», «exports::blend_read», «exports::blend_catalogue», «exports::blend_field», «exports::blend_width», «exports::blend_view», «exports::blend_lookup», «exports::blend_u8», «exports::blend_u16», «exports::blend_u32», «exports::blend_u64», «demands::read», «demands::read_two»}
+use Rattle.promises.specs.Calls.PublicCall.{«bytes::PointerSize::bytes_num», «bytes::Fault::refusal», «bytes::cursor::Width::bytes_num», «bytes::cursor::stands_at», «bytes::cursor::before», «bytes::cursor::Cursor::new», «bytes::cursor::Cursor::number», «bytes::cursor::Cursor::skip», «bytes::cursor::Cursor::bytes», «bytes::cursor::Cursor::part», «bytes::cursor::Cursor::mark», «bytes::cursor::Cursor::begins», «bytes::cursor::Cursor::string», «primitive::primitive::parse_u8», «primitive::primitive::parse_u16», «primitive::primitive::parse_u32», «primitive::primitive::parse_u64», «primitive::primitive::parse_char», «primitive::primitive::parse_i8», «primitive::primitive::parse_i16», «primitive::primitive::parse_i32», «primitive::primitive::parse_i64», «primitive::primitive::parse_f32», «primitive::primitive::parse_f64», «primitive::primitive::blender_name_char», «primitive::primitive::blender_name_i8», «primitive::primitive::blender_name_u8», «primitive::primitive::blender_name_u16», «primitive::primitive::blender_name_i16», «primitive::primitive::blender_name_i32», «primitive::primitive::blender_name_u32», «primitive::primitive::blender_name_f32», «primitive::primitive::blender_name_f64», «primitive::primitive::blender_name_u64», «primitive::primitive::blender_name_i64», «field::field::fn_pointer», «field::field::scan_field», «field::field::parse_field», «field::field::width», «dna::dna::dna_counts», «dna::dna::dna», «header::FileFormat::header_len», «header::FileFormat::block_header_len», «header::Header::new», «block::BlockHeader::new», «block::Kind::of_code», «block::About::new», «block::Kind::about», «header::blend::pointer_size», «header::blend::endianness», «header::blend::version», «header::blend::header», «header::blend::refusal_of», «block::blend::block_header_code», «block::blend::block_header», «block::blend::header_in», «blend::blend::boundary_at», «blend::blend::blend», «walker::Place::start», «walker::Place::step», «runtime::runtime::view», «runtime::runtime::view_part», «runtime::runtime::matches», «runtime::runtime::get_ptr», «runtime::runtime::code», «held::step_at», «held::over», «held::next», «held::moved», «held::step_from», «held::row_is», «held::find_row», «held::find_in», «exports::blend_header», «exports::blend_read», «exports::blend_catalogue», «exports::blend_field», «exports::blend_width», «exports::blend_view», «exports::blend_lookup», «exports::blend_u8», «exports::blend_u16», «exports::blend_u32», «exports::blend_u64», «demands::read», «demands::read_two»}
 
 -- of a function whose contract has a second clause besides, the first is kept
 module _ (T : Ended) (code : Routine) (says : Says T)
@@ -194,16 +196,18 @@ every «dna::dna::dna» =
 every «header::FileFormat::header_len» = record { keeps = first-kept header.FileFormat.header_len.ended header.FileFormat.header_len.Symbol.routine (λ κs a r e. «FileFormat::header_len» (a .0) r) (λ M 𝓤 H 𝓜 𝓖 𝓡 κs a r e. header.FileFormat.header_len.ensures-constants 𝓤 H κs (𝓖 .A) (𝓜 .mem) (𝓡 .run) (a .0) (record { entry = a .0; exit = e .0 }) r) (λ M. header.FileFormat.header_len.Met.met); one = λ κs a r q ws vs x y. (x ∙ sym y, refl) }
 every «header::FileFormat::block_header_len» = record { keeps = first-kept header.FileFormat.block_header_len.ended header.FileFormat.block_header_len.Symbol.routine (λ κs a r e. «FileFormat::block_header_len» (a .0) (a .1 .0) r) (λ M 𝓤 H 𝓜 𝓖 𝓡 κs a r e. header.FileFormat.block_header_len.ensures-constants 𝓤 H κs (𝓖 .A) (𝓜 .mem) (𝓡 .run) (a .0) (a .1 .0) (record { entry = a .0; exit = e .0 }) (record { entry = a .1 .0; exit = e .1 .0 }) r) (λ M. header.FileFormat.block_header_len.Met.met); one = λ κs a r q ws vs x y. (x ∙ sym y, refl) }
 every «header::Header::new» = record { keeps = λ M. header.Header.new.Met.met; one = λ κs a r q ws vs x y. (x ∙ sym y, refl) }
-every «blend::BlockHeader::new» = record { keeps = λ M. blend.BlockHeader.new.Met.met; one = λ κs a r q ws vs x y. (x ∙ sym y, refl) }
-every «blend::Kind::of_code» = record { keeps = λ M. blend.Kind.of_code.Met.met; one = λ κs a r q ws vs x y. (whole-kind r q (x ∙ sym y), refl) }
-every «blend::About::new» = record { keeps = λ M. blend.About.new.Met.met; one = λ κs a r q ws vs x y. (x ∙ sym y, refl) }
-every «blend::Kind::about» = record { keeps = λ M. blend.Kind.about.Met.met; one = λ κs a r q ws vs x y. (x ∙ sym y, refl) }
+every «block::BlockHeader::new» = record { keeps = λ M. block.BlockHeader.new.Met.met; one = λ κs a r q ws vs x y. (x ∙ sym y, refl) }
+every «block::Kind::of_code» = record { keeps = λ M. block.Kind.of_code.Met.met; one = λ κs a r q ws vs x y. (whole-kind r q (x ∙ sym y), refl) }
+every «block::About::new» = record { keeps = λ M. block.About.new.Met.met; one = λ κs a r q ws vs x y. (x ∙ sym y, refl) }
+every «block::Kind::about» = record { keeps = λ M. block.Kind.about.Met.met; one = λ κs a r q ws vs x y. (x ∙ sym y, refl) }
 every «header::blend::pointer_size» = record { keeps = λ M. header.blend.pointer_size.Met.met; one = λ κs a r q ws vs x y. (whole-pointer-size r q (x ∙ sym y), refl) }
 every «header::blend::endianness» = record { keeps = λ M. header.blend.endianness.Met.met; one = λ κs a r q ws vs x y. (whole-endianness r q (x ∙ sym y), refl) }
 every «header::blend::version» = record { keeps = λ M. header.blend.version.Met.met; one = λ κs a r q ws vs x y. (whole-version r q (x ∙ sym y), refl) }
 every «header::blend::header» = record { keeps = λ M. header.blend.header.Met.met; one = λ κs a r q ws vs x y. (whole-header r q (x ∙ sym y), refl) }
 every «header::blend::refusal_of» = record { keeps = λ M. header.blend.refusal_of.Met.met; one = λ κs a r q ws vs x y. (x ∙ sym y, refl) }
-every «blend::blend::block_header_code» = record { keeps = λ M. blend.blend.block_header_code.Met.met; one = λ κs a r q ws vs x y. (whole-numbered r q (x ∙ sym y), refl) }
+every «block::blend::block_header_code» = record { keeps = λ M. block.blend.block_header_code.Met.met; one = λ κs a r q ws vs x y. (whole-numbered r q (x ∙ sym y), refl) }
+every «block::blend::block_header» = record { keeps = λ M. block.blend.block_header.Met.met; one = λ κs a r q ws vs x y. (whole-block-header r q (x ∙ sym y), refl) }
+every «block::blend::header_in» = record { keeps = λ M. block.blend.header_in.Met.met; one = λ κs a r q ws vs x y. (x ∙ sym y, refl) }
 every «blend::blend::boundary_at» = record { keeps = λ M. blend.blend.boundary_at.Met.met; one = λ κs a r q ws vs x y. (x ∙ sym y, refl) }
 every «blend::blend::blend» =
     record {

@@ -11,7 +11,8 @@ use Rattle.primitive.specs.Calls.{«primitive::parse_u8», «primitive::parse_u
 use Rattle.field.specs.Calls.{«field::fn_pointer», «field::scan_field», «field::parse_field», «field::width»}
 use Rattle.dna.specs.Calls.{«dna::dna_counts», «dna::dna»}
 use Rattle.header.specs.Calls.{«FileFormat::header_len», «FileFormat::block_header_len», «Header::new», «blend::pointer_size», «blend::endianness», «blend::version», «blend::header», «blend::refusal_of»}
-use Rattle.blend.specs.Calls.{«BlockHeader::new», «Kind::of_code», «About::new», «Kind::about», «blend::boundary_at», «blend::block_header_code», «blend::blend»}
+use Rattle.block.specs.Calls.{«BlockHeader::new», «Kind::of_code», «About::new», «Kind::about», «blend::block_header_code», «blend::block_header», «blend::header_in»}
+use Rattle.blend.specs.Calls.{«blend::boundary_at», «blend::blend»}
 use Rattle.walker.specs.Calls.{«Place::start», «Place::step»}
 use Rattle.runtime.specs.Calls.{«runtime::view», «runtime::view_part», «runtime::matches», «runtime::get_ptr», «runtime::code»}
 use Rattle.held.specs.Calls.{«step_at», «over», «next», «moved», «step_from», «row_is», «find_row», «find_in»}
@@ -25,6 +26,7 @@ use Rattle.primitive.proofs as primitive
 use Rattle.field.proofs as field
 use Rattle.dna.proofs as dna
 use Rattle.header.proofs as header
+use Rattle.block.proofs as block
 use Rattle.blend.proofs as blend
 use Rattle.walker.proofs as walker
 use Rattle.runtime.proofs as runtime
@@ -79,16 +81,18 @@ pub data PublicCall : Type 0 where
   «header::FileFormat::header_len» : PublicCall
   «header::FileFormat::block_header_len» : PublicCall
   «header::Header::new» : PublicCall
-  «blend::BlockHeader::new» : PublicCall
-  «blend::Kind::of_code» : PublicCall
-  «blend::About::new» : PublicCall
-  «blend::Kind::about» : PublicCall
+  «block::BlockHeader::new» : PublicCall
+  «block::Kind::of_code» : PublicCall
+  «block::About::new» : PublicCall
+  «block::Kind::about» : PublicCall
   «header::blend::pointer_size» : PublicCall
   «header::blend::endianness» : PublicCall
   «header::blend::version» : PublicCall
   «header::blend::header» : PublicCall
   «header::blend::refusal_of» : PublicCall
-  «blend::blend::block_header_code» : PublicCall
+  «block::blend::block_header_code» : PublicCall
+  «block::blend::block_header» : PublicCall
+  «block::blend::header_in» : PublicCall
   «blend::blend::boundary_at» : PublicCall
   «blend::blend::blend» : PublicCall
   «walker::Place::start» : PublicCall
@@ -176,16 +180,18 @@ publicCall «dna::dna::dna» =
 publicCall «header::FileFormat::header_len» = call header.FileFormat.header_len.ended header.FileFormat.header_len.Symbol.routine (λ κs (self, _) r e. «FileFormat::header_len» self r)
 publicCall «header::FileFormat::block_header_len» = call header.FileFormat.block_header_len.ended header.FileFormat.block_header_len.Symbol.routine (λ κs (self, («pointer_size», _)) r e. «FileFormat::block_header_len» self «pointer_size» r)
 publicCall «header::Header::new» = call header.Header.new.ended header.Header.new.Symbol.routine (λ κs («pointer_size», (endianness, (version, (format, _)))) r e. «Header::new» «pointer_size» endianness version format r)
-publicCall «blend::BlockHeader::new» = call blend.BlockHeader.new.ended blend.BlockHeader.new.Symbol.routine (λ κs (code, (size, (address, (index, (count, _))))) r e. «BlockHeader::new» code size address index count r)
-publicCall «blend::Kind::of_code» = call blend.Kind.of_code.ended blend.Kind.of_code.Symbol.routine (λ κs (code, _) r e. «Kind::of_code» code r)
-publicCall «blend::About::new» = call blend.About.new.ended blend.About.new.Symbol.routine (λ κs (takes, (found, (coded, (dna, _)))) r e. «About::new» takes found coded dna r)
-publicCall «blend::Kind::about» = call blend.Kind.about.ended blend.Kind.about.Symbol.routine (λ κs (self, _) r e. «Kind::about» self r)
+publicCall «block::BlockHeader::new» = call block.BlockHeader.new.ended block.BlockHeader.new.Symbol.routine (λ κs (code, (size, (address, (index, (count, _))))) r e. «BlockHeader::new» code size address index count r)
+publicCall «block::Kind::of_code» = call block.Kind.of_code.ended block.Kind.of_code.Symbol.routine (λ κs (code, _) r e. «Kind::of_code» code r)
+publicCall «block::About::new» = call block.About.new.ended block.About.new.Symbol.routine (λ κs (takes, (found, (coded, (dna, _)))) r e. «About::new» takes found coded dna r)
+publicCall «block::Kind::about» = call block.Kind.about.ended block.Kind.about.Symbol.routine (λ κs (self, _) r e. «Kind::about» self r)
 publicCall «header::blend::pointer_size» = call header.blend.pointer_size.ended header.blend.pointer_size.Symbol.routine (λ κs (c, (s, _)) r e. «blend::pointer_size» c (now s) r)
 publicCall «header::blend::endianness» = call header.blend.endianness.ended header.blend.endianness.Symbol.routine (λ κs (c, (s, _)) r e. «blend::endianness» c (now s) r)
 publicCall «header::blend::version» = call header.blend.version.ended header.blend.version.Symbol.routine (λ κs (c, (s, _)) r e. «blend::version» c (now s) r)
 publicCall «header::blend::header» = call header.blend.header.ended header.blend.header.Symbol.routine (λ κs (file, _) r e. «blend::header» (now file) r)
 publicCall «header::blend::refusal_of» = call header.blend.refusal_of.ended header.blend.refusal_of.Symbol.routine (λ κs (answer, _) r e. «blend::refusal_of» answer r)
-publicCall «blend::blend::block_header_code» = call blend.blend.block_header_code.ended blend.blend.block_header_code.Symbol.routine (λ κs (c, (s, _)) r e. «blend::block_header_code» c (now s) r)
+publicCall «block::blend::block_header_code» = call block.blend.block_header_code.ended block.blend.block_header_code.Symbol.routine (λ κs (c, (s, _)) r e. «blend::block_header_code» c (now s) r)
+publicCall «block::blend::block_header» = call block.blend.block_header.ended block.blend.block_header.Symbol.routine (λ κs (c, (s, (h, _))) r e. «blend::block_header» c (now s) h r)
+publicCall «block::blend::header_in» = call block.blend.header_in.ended block.blend.header_in.Symbol.routine (λ κs (part, (h, _)) r e. «blend::header_in» (now part) h r)
 publicCall «blend::blend::boundary_at» = call blend.blend.boundary_at.ended blend.blend.boundary_at.Symbol.routine (λ κs (s, (h, (at, _))) r e. «blend::boundary_at» (now s) h at r)
 publicCall «blend::blend::blend» =
     lends blend.blend.blend.ended blend.blend.blend.Symbol.routine (λ κs (file, (table, _)) r (_, (table′, _)). «blend::blend» (now file) (now table) r (now table′))

@@ -3,7 +3,7 @@ use Prim.Native.Nat.{ℕ}
 use mathlib.Core.List.{List, [], _∷_, _++_}
 use mathlib.Core.Path.{_≡_, refl}
 use Rattle.bytes.specs.Paper.Paper.{accepts, refuses}
-use Rattle.blend.specs.Blocks.{kindOf}
+use Rattle.block.specs.Kinds.{kindOf}
 use Rattle.runtime.specs.Views.{viewAs, partAs}
 use Rattle.runtime.specs.Addresses.{seek, lookupAs, codeAs}
 

@@ -16,7 +16,7 @@ use Rattle.bytes.specs.Reader.Reader.{done, skip}
 use Rattle.bytes.specs.Reader.Outcome.{read, fault}
 use Rattle.bytes.specs.Refusals.{notThere}
 use Rattle.bytes.proofs.Tests.{held, failed}
-use Rattle.blend.specs.Rows.{perRow, Column, cell}
+use Rattle.block.specs.Rows.{perRow, Column, cell}
 use Rattle.runtime.specs.Views.{isThere, viewAs, partAs}
 use Rattle.runtime.specs.Addresses.{matches, null, found, missing, seek, lookupAs}
 use Rattle.bytes.proofs.Parts.{skip-room}

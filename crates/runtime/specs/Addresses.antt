@@ -7,11 +7,11 @@ use lib.ListN.{length}
 use Rattle.bytes.specs.Paper.{Paper}
 use Rattle.bytes.specs.Paper.Paper.{accepts, refuses}
 use Rattle.bytes.specs.Refusals.{notThere}
-use Rattle.blend.specs.declared.Kind.{Kind}
+use Rattle.block.specs.declared.Kind.{Kind}
 use Rattle.runtime.specs.declared.runtime.Pointer.{Pointer}
 use Rattle.runtime.specs.declared.runtime.BlockCode.{BlockCode}
-use Rattle.blend.specs.Blocks.{kindOf, about}
-use Rattle.blend.specs.Rows.{Column, perRow, cell}
+use Rattle.block.specs.Kinds.{kindOf, about}
+use Rattle.block.specs.Rows.{Column, perRow, cell}
 
 -- Principal and Subsidiary (DATA) rows are found by their address.
 abbrev pub isFound : Kind → Bool

@@ -9,7 +9,7 @@ use Rattle.bytes.specs.Paper.Paper.{accepts, refuses}
 use Rattle.bytes.specs.Reader.{room}
 use Rattle.bytes.specs.Refusals.{notThere}
 use Rattle.runtime.specs.declared.runtime.ViewAnswer.{ViewAnswer}
-use Rattle.blend.specs.Rows.{Column, perRow, cell}
+use Rattle.block.specs.Rows.{Column, perRow, cell}
 
 -- whether the table has the row
 abbrev pub hasRow : List ℕ → ℕ → Bool

@@ -1,14 +1,14 @@
 // Of runtime.rs of the Rust: a block's code and the search for an address, over the row table. Views (added) are the parts of a file that rows
 // tell of.
-use blend::Kind;
-use blend::Row;
+use block::Kind;
+use block::Row;
 use bytes::Fault;
 use bytes::cursor::Cursor;
 use bytes::cursor::Moved;
 ghost use mathlib.Core.Path.{_≡_};
 ghost use Prim.Native.Nat.{_+_, _*_, _/_, _<_};
 ghost use lib.ListN.{length, getD};
-ghost use Rattle.blend.specs.Rows.{perRow};
+ghost use Rattle.block.specs.Rows.{perRow};
 ghost use Rattle.runtime.specs.Calls as calls;
 
 /// Whether there is a view of a row.

@@ -2,9 +2,9 @@
 // catalogue of a real scene, in both byte orders. The file stdout has what that has to be.
 mod catalogue;
 
-use blend::Row;
 use blend::blend::BlendAnswer;
 use blend::blend::blend;
+use block::Row;
 use bytes::Endianness;
 use bytes::PointerSize;
 use dna::dna::DnaCounts;

@@ -8,7 +8,9 @@ use Rattle.bytes.specs.Paper.Paper.{accepts, refuses}
 use Rattle.bytes.specs.Reader.{run, then, times}
 use Rattle.dna.specs.Catalogue.{catalogue, listed, strings, sized, struct, structured, fieldCount}
 use Rattle.header.specs.Header.{decimal, legacy, new, headerBytes}
-use Rattle.blend.specs.Blocks.{fields, blockHeader, kindOf, block, rowAt, finished, boundaryOf}
+use Rattle.block.specs.BlockHeaders.{fields, blockHeader}
+use Rattle.block.specs.Kinds.{kindOf}
+use Rattle.blend.specs.Blocks.{block, rowAt, finished, boundaryOf}
 use Rattle.walker.specs.Walker.{stepBy, start}
 
 -- Document 01's example: a Principal "OB" with the payload "hull", and a DNA1 with a catalogue of 52 bytes.

@@ -1,6 +1,6 @@
 -- The papers and the outcomes of the answers lose nothing: two answers that are told alike are the same answer.
 use mathlib.Core.Path.{_≡_}
-use Rattle.blend.proofs.Lossless.{whole-row}
+use Rattle.block.proofs.Lossless.{whole-row}
 use Rattle.walker.specs.declared.Step.{Step}
 use Rattle.walker.specs.Walker.{paperStep, placeOf}
 

@@ -15,7 +15,7 @@ use Rattle.bytes.proofs.Refusing.{numberOf, fault-told}
 use Rattle.bytes.proofs.Tests.{held, failed}
 use Rattle.dna.specs.declared.dna.DnaCounts.{DnaCounts}
 use Rattle.header.specs.declared.Header.{Header}
-use Rattle.blend.specs.declared.Row.{Row}
+use Rattle.block.specs.declared.Row.{Row}
 use Rattle.blend.specs.declared.blend.Last.{Last}
 use Rattle.blend.specs.declared.blend.Boundary.{Boundary}
 use Rattle.walker.specs.declared.Place.{Place}

@@ -12,14 +12,14 @@ use Rattle.bytes.specs.Reader.{Reader, Outcome, run}
 use Rattle.bytes.specs.Reader.Outcome.{read, fault}
 use Rattle.bytes.specs.Refusals.{noDnaBlockFound, notThere, paperFault}
 use Rattle.header.specs.declared.Header.{Header}
-use Rattle.blend.specs.declared.Row.{Row}
+use Rattle.block.specs.declared.Row.{Row}
 use Rattle.blend.specs.declared.blend.Last.{Last}
 use Rattle.blend.specs.declared.blend.Boundary.{Boundary}
 use Rattle.walker.specs.declared.Place.{Place}
 use Rattle.walker.specs.declared.Step.{Step}
 use Rattle.header.specs.Header.{HeaderBytes, valued}
 use Rattle.blend.specs.Blocks.{boundaryOf}
-use Rattle.blend.specs.Rows.{rowNumbers}
+use Rattle.block.specs.Rows.{rowNumbers}
 
 -- A step's answer, and the place that it hands back.
 pub record Walked : Type 0 where

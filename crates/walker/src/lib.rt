@@ -1,8 +1,8 @@
 // A walk from block to block (added): a place in a file, moved by value. The file is handed to every step.
-use blend::Row;
 use blend::blend::Boundary;
 use blend::blend::Last;
 use blend::blend::boundary_at;
+use block::Row;
 use bytes::Fault;
 use header::blend::HeaderAnswer;
 use header::blend::header;

@@ -2,7 +2,7 @@
 use mathlib.Core.Path.{sym, _∙_, ap}
 use denote.Ref.{now}
 use Rattle.bytes.specs.Paper.{Paper}
-use Rattle.blend.specs.Rows.{Column, cell}
+use Rattle.block.specs.Rows.{Column, cell}
 use Rattle.runtime.specs.Views.{paperView}
 use Rattle.runtime.proofs.Views.{view-no-row}
 use Rattle.exports.specs.Exports.{viewOut}

@@ -5,10 +5,10 @@ use denote.Enum.Laws as EL
 use Rattle.bytes.specs.Paper.{Paper}
 use Rattle.runtime.specs.Addresses.{paperPointer}
 use Rattle.held.specs.Held.{lookupRows}
-use Rattle.blend.specs.declared.Row.{Row}
+use Rattle.block.specs.declared.Row.{Row}
 use Rattle.runtime.specs.declared.runtime.Pointer.{Pointer}
-use Rattle.blend.proofs.Row as R
-use Rattle.blend.proofs.Row.Laws as R′
+use Rattle.block.proofs.Row as R
+use Rattle.block.proofs.Row.Laws as R′
 use Rattle.runtime.proofs.runtime.Pointer as S
 use Rattle.runtime.proofs.runtime.Pointer.Laws as S′
 use Rattle.held.proofs.find_row.Symbol.{name as #held·find-row}

@@ -6,14 +6,14 @@ use denote.Enum.Laws as EL
 use Rattle.bytes.specs.Paper.{Paper}
 use Rattle.bytes.specs.Refusals.{notThere}
 use Rattle.runtime.specs.Addresses.{seek, null, paperPointer}
-use Rattle.blend.specs.Rows.{none}
+use Rattle.block.specs.Rows.{none}
 use Rattle.held.specs.Held.{rowIs, lookupRows}
-use Rattle.blend.specs.declared.Row.{Row}
+use Rattle.block.specs.declared.Row.{Row}
 use Rattle.runtime.specs.declared.runtime.Pointer.{Pointer}
 use Rattle.held.proofs.Past.{afterSteps}
 use Rattle.held.proofs.Seek as law
-use Rattle.blend.proofs.Row as R
-use Rattle.blend.proofs.Row.Laws as R′
+use Rattle.block.proofs.Row as R
+use Rattle.block.proofs.Row.Laws as R′
 use Rattle.runtime.proofs.runtime.Pointer as S
 use Rattle.runtime.proofs.runtime.Pointer.Laws as S′
 use Rattle.held.proofs.row_is.Symbol.{name as #held·row-is}

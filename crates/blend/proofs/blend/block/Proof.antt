@@ -3,10 +3,11 @@ use mathlib.Core.Path.{refl, sym, _∙_, ap}
 use native.Mathlib.Omega.{arith}
 use denote.Ref.{now}
 use Rattle.bytes.specs.Cursor.{moved}
-use Rattle.blend.specs.Helpers.{taking, blockHeaderRead}
+use Rattle.blend.specs.Helpers.{taking}
+use Rattle.block.specs.BlockHeaders.{blockHeaderRead}
 use Rattle.blend.proofs.Rows.{row-no-header, row-no-payload, payload-fits, row-refused, row-read}
-use Rattle.blend.proofs.Lossless.{whole-kind}
-use Rattle.blend.specs.declared.About.{About}
+use Rattle.block.proofs.Lossless.{whole-kind}
+use Rattle.block.specs.declared.About.{About}
 use Rattle.blend.specs.Blocks.{takenBy}
 use borrow.Author.Needs.{needs}
 use Rattle.blend.proofs.blend.block.Statement.{statement}

@@ -4,8 +4,8 @@ use native.Mathlib.Omega.{arith}
 use denote.Ref.{now}
 use Rattle.bytes.proofs.Parts.{slice-same, slice-long}
 use Rattle.blend.proofs.Rows.{other-finished, dna-finished, dna-stopped, dna-placed}
-use Rattle.blend.proofs.Lossless.{whole-kind}
-use Rattle.blend.specs.declared.About.{About}
+use Rattle.block.proofs.Lossless.{whole-kind}
+use Rattle.block.specs.declared.About.{About}
 use borrow.Author.Needs.{needs}
 use Rattle.blend.proofs.blend.finished.Statement.{statement}
 use Rattle.blend.proofs.blend.finished.Tie as tie

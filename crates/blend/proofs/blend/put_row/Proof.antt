@@ -4,7 +4,7 @@ use native.Mathlib.Omega.{arith}
 use Prim.Native.Nat.{_+_}
 use lib.ListN.{length-set}
 use Rattle.bytes.specs.Helpers.{put}
-use Rattle.blend.specs.Rows.{Column, columnOf}
+use Rattle.block.specs.Rows.{Column, columnOf}
 use borrow.Author.Needs.{needs}
 use Rattle.blend.proofs.blend.put_row.Statement.{statement}
 use Rattle.blend.proofs.blend.put_row.Tie as tie

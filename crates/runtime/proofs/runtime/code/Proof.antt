@@ -2,9 +2,9 @@
 use mathlib.Core.Path.{sym, _∙_, ap}
 use Rattle.bytes.proofs.Tests.{held, failed}
 use Rattle.runtime.specs.Addresses.{hasCode, codeAs}
-use Rattle.blend.specs.declared.About.{About}
-use Rattle.blend.specs.Blocks.{kindOf}
-use Rattle.blend.proofs.Lossless.{whole-kind}
+use Rattle.block.specs.declared.About.{About}
+use Rattle.block.specs.Kinds.{kindOf}
+use Rattle.block.proofs.Lossless.{whole-kind}
 use borrow.Author.Needs.{needs}
 use Rattle.runtime.proofs.runtime.code.Statement.{statement}
 use Rattle.runtime.proofs.runtime.code.Tie as tie

@@ -3,9 +3,9 @@ use mathlib.Core.Path.{sym, _∙_, ap}
 use mathlib.Core.Bool.{Bool, _&&_}
 use lib.Dec.{eqb}
 use Rattle.runtime.specs.Addresses.{isFound}
-use Rattle.blend.specs.declared.About.{About}
-use Rattle.blend.specs.Blocks.{kindOf}
-use Rattle.blend.proofs.Lossless.{whole-kind}
+use Rattle.block.specs.declared.About.{About}
+use Rattle.block.specs.Kinds.{kindOf}
+use Rattle.block.proofs.Lossless.{whole-kind}
 use borrow.Author.Needs.{needs}
 use Rattle.runtime.proofs.runtime.matches.Statement.{statement}
 use Rattle.runtime.proofs.runtime.matches.Tie as tie
