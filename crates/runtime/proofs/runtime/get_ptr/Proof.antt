@@ -5,13 +5,14 @@ use denote.Ref.{now}
 use borrow.Author.Needs.{needs}
 use Prim.Native.Nat.{_-_, _/_, _≤_}
 use lib.ListN.{length}
+use Rattle.block.specs.Rows.{perRow}
 use Rattle.runtime.specs.Addresses.{seek, lookupAs}
 use Rattle.runtime.proofs.Views.{at-row, lookup-short, lookup-null, lookup-starts, lookup-found, lookup-on, lookup-missing}
 use Rattle.runtime.proofs.runtime.get_ptr.Statement.{statement}
 use Rattle.runtime.proofs.runtime.get_ptr.Tie as tie
 
 abbrev Inv-loop : tie.InvT-loop
-Inv-loop table rows address row₀ row = (lookupAs table rows address ≡ seek (at-row table rows address) (rows - row) row) × (rows ≤ length table / 7)
+Inv-loop table rows address row₀ row = (lookupAs table rows address ≡ seek (at-row table rows address) (rows - row) row) × (rows ≤ length table / perRow)
 
 abbrev μ-loop : tie.MeasureT-loop
 μ-loop table rows address row₀ row = rows - row
