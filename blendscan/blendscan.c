@@ -9,7 +9,7 @@
 /* What the program ends with. Of several files the highest counts. */
 enum { ALL_READ, REFUSED, NOT_HAD, BROKEN };
 
-enum mode { LISTING, SUMMARY, CATALOGUE };
+enum mode { LISTING, SUMMARY, CATALOGUE, FINDING };
 
 /* The refusals of blend.h that ask for a larger table. */
 enum { ROWS_SHORT = 7, DIMENSIONS_SHORT = 11 };
@@ -290,20 +290,66 @@ static int tell_refusal(const struct scene *s)
 
 /* ---- The listing */
 
+static void put_block(const struct scene *s, uint64_t number)
+{
+    const uint64_t *row = s->rows + BLEND_ROW * number;
+
+    print("block %lu %08lx %lu %lu %lu %lu %lu %lu\n", number, row[CODE], row[ADDRESS], row[INDEX], row[COUNT], row[HEADER_AT], row[PAYLOAD_AT],
+          row[PAYLOAD_LENGTH]);
+}
+
 static int list(const struct scene *s)
 {
     const struct blend_read *r = &s->read;
 
     print("blend %s %lu %s %lu %lu\n", edition_of(s), 8 * r->pointer_bytes, order_of(s), r->major, r->minor);
-    for (uint64_t i = 0; i < r->rows; i++) {
-        const uint64_t *row = s->rows + BLEND_ROW * i;
-
-        print("block %lu %08lx %lu %lu %lu %lu %lu %lu\n", i, row[CODE], row[ADDRESS], row[INDEX], row[COUNT], row[HEADER_AT], row[PAYLOAD_AT],
-              row[PAYLOAD_LENGTH]);
-    }
+    for (uint64_t i = 0; i < r->rows; i++)
+        put_block(s, i);
     print("dna %lu %lu %lu %lu\n", r->names, r->types, r->structs, r->fields);
     print("end %lu\n", r->end);
     return ALL_READ;
+}
+
+/* ---- What addresses lead to */
+
+/* The addresses that the command line asks for. */
+static struct {
+    uint64_t *addresses;
+    uint64_t count;
+} asked;
+
+enum { LEADS_TO_NULL, LEADS_TO_BLOCK };
+
+static bool put_found(const struct scene *s, uint64_t address, struct blend_found found)
+{
+    if (found.refusal != 0)
+        return false;
+    print("find %lu ", address);
+    if (found.kind == LEADS_TO_BLOCK)
+        put_block(s, found.row);
+    else
+        print(found.kind == LEADS_TO_NULL ? "null\n" : "missing\n");
+    return true;
+}
+
+/* By an index with about as many buckets as rows, and an odd number of them, as blend.h advises. */
+static int find(const struct scene *s)
+{
+    uint64_t rows = s->read.rows, buckets = rows | 1;
+    uint64_t *heads = table_for(buckets, 1), *links = table_for(rows, 1);
+    bool holds = blend_index(s->rows, s->numbers, rows, buckets, heads, buckets, links, rows).refusal == 0;
+
+    for (uint64_t i = 0; holds && i < asked.count; i++) {
+        uint64_t address = asked.addresses[i];
+
+        holds = put_found(s, address, blend_find(s->rows, s->numbers, rows, buckets, heads, buckets, links, rows, address));
+    }
+    free(heads);
+    free(links);
+    if (holds)
+        return ALL_READ;
+    complain(s->file.name, "an index over its blocks was refused");
+    return BROKEN;
 }
 
 /* ---- The summary */
@@ -612,7 +658,7 @@ static int catalogue(const struct scene *s)
 /* ---- The command line */
 
 static const char help[] =
-    "usage: blendscan [--summary | --catalogue] [FILE ...]\n"
+    "usage: blendscan [--summary | --catalogue | --find ADDRESS ...] [FILE ...]\n"
     "\n"
     "Shows what .blend files have in them. Without a FILE, or where it is -, standard\n"
     "input is read.\n"
@@ -628,6 +674,10 @@ static const char help[] =
     "                number and size and, for each field, its offset, width, type and\n"
     "                name. A line that begins with `problem:` tells what is wrong with\n"
     "                what stands above it; the last line counts the structs with one\n"
+    "  --find ADDRESS\n"
+    "                what a stored address leads to, decimal or after 0x: the line of the\n"
+    "                first block of the scene's own things or DATA block that was saved at\n"
+    "                it; or `null`, for 0, or `missing`. May be given several times\n"
     "  --help        this page\n"
     "  --            what follows are files, whatever they begin with\n"
     "\n"
@@ -666,6 +716,8 @@ static int scan(enum mode mode, const char *name)
         status = summarise(&s);
     else if (mode == CATALOGUE)
         status = catalogue(&s);
+    else if (mode == FINDING)
+        status = find(&s);
     else
         status = list(&s);
     settle();
@@ -702,7 +754,42 @@ static enum mode mode_of(const char *word)
 {
     if (strcmp(word, "--summary") == 0)
         return SUMMARY;
+    if (strcmp(word, "--find") == 0)
+        return FINDING;
     return strcmp(word, "--catalogue") == 0 ? CATALOGUE : LISTING;
+}
+
+/* The number that a digit stands for, or 16. */
+static uint64_t digit_of(char byte)
+{
+    if (byte >= '0' && byte <= '9')
+        return (uint64_t)(byte - '0');
+    if (byte >= 'a' && byte <= 'f')
+        return (uint64_t)(byte - 'a' + 10);
+    return byte >= 'A' && byte <= 'F' ? (uint64_t)(byte - 'A' + 10) : 16;
+}
+
+/* Takes an address, decimal or after 0x. False, and the reason is told, for a word that is none. */
+static bool ask_for(const char *word)
+{
+    bool hex = word != NULL && word[0] == '0' && (word[1] == 'x' || word[1] == 'X');
+    uint64_t base = hex ? 16 : 10, number = 0;
+    const char *at = hex ? word + 2 : word;
+    bool sound = at != NULL && *at != 0;
+
+    for (; sound && *at != 0; at++) {
+        uint64_t digit = digit_of(*at);
+
+        sound = digit < base && number <= (UINT64_MAX - digit) / base;
+        number = sound ? number * base + digit : 0;
+    }
+    if (!sound) {
+        complain(word == NULL ? "--find" : word, "--find needs an address: a number of at most 2^64-1, decimal or after 0x");
+        return false;
+    }
+    asked.addresses = room_for(asked.addresses, asked.count, sizeof *asked.addresses);
+    asked.addresses[asked.count++] = number;
+    return true;
 }
 
 static bool set_mode(enum mode *mode, const char *word)
@@ -742,7 +829,7 @@ int main(int argc, char **argv)
             print("%s", help);
             settle();
             return ALL_READ;
-        } else if (!set_mode(&mode, argv[i])) {
+        } else if (!set_mode(&mode, argv[i]) || (strcmp(argv[i], "--find") == 0 && !ask_for(argv[++i]))) {
             return NOT_HAD;
         }
     }

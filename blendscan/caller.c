@@ -393,6 +393,113 @@ static void addresses(uint64_t *checks, uint8_t *lent)
     HOLDS(leads(blend_lookup(table, ROWS, 2, MOST), 0, 1, 1));
 }
 
+/* ---- An index over four rows, three of them with one address: a GLOB block, an object, a DATA block with an address of its own, and an object */
+
+enum { FOUR = 4 * BLEND_ROW };
+
+static const uint64_t four[4][2] = {{0x474c4f42, 16}, {0x4f420000, 16}, {0x44415441, 17}, {0x4f420000, 16}};
+
+static uint64_t *four_rows(uint8_t *guard)
+{
+    uint64_t *table = table_at(guard, FOUR);
+
+    for (size_t i = 0; i < 4; i++)
+        table[BLEND_ROW * i] = four[i][0], table[BLEND_ROW * i + 1] = four[i][1];
+    return table;
+}
+
+static bool holds_numbers(const uint64_t *table, const uint64_t *numbers, size_t count)
+{
+    return memcmp(table, numbers, count * sizeof *numbers) == 0;
+}
+
+/* Every length of the two tables and the row table, about what is needed. */
+static void indexes(uint64_t *checks, uint8_t *guard, uint8_t *heads_guard, uint8_t *links_guard)
+{
+    static const uint64_t two_heads[] = {1, 3}, all_links[] = {2, 4, 0, 0};
+
+    for (size_t i = 0; i < 5 * 6 * 6; i++) {
+        size_t buckets = i % 5, heads_numbers = i / 5 % 6, links_numbers = i / 30;
+        uint64_t *table = four_rows(guard), *heads = table_at(heads_guard, heads_numbers), *links = table_at(links_guard, links_numbers);
+        struct blend_index n = blend_index(table, FOUR, 4, buckets, heads, heads_numbers, links, links_numbers);
+
+        if (buckets == 0 || heads_numbers < buckets || links_numbers < 4) {
+            HOLDS(n.refusal == 14 && n.buckets == (buckets == 0 ? 1 : buckets) && n.rows == 4);
+            HOLDS(left(heads, 0, heads_numbers) && left(links, 0, links_numbers));
+        } else {
+            HOLDS(zeros(&n, sizeof n, 0) && left(heads, buckets, heads_numbers) && left(links, 4, links_numbers));
+            HOLDS(buckets != 2 || (holds_numbers(heads, two_heads, 2) && holds_numbers(links, all_links, 4)));
+        }
+        n = blend_index(table + 1, FOUR - 1, 4, buckets, table_at(heads_guard, heads_numbers), heads_numbers, table_at(links_guard, links_numbers), links_numbers);
+        HOLDS(n.refusal == 13 && zeros(&n, sizeof n, 1) && left(heads, 0, heads_numbers) && left(links, 0, links_numbers));
+    }
+    for (size_t i = 2; i < sizeof huge / sizeof *huge; i++) {
+        uint64_t *table = four_rows(guard), *heads = table_at(heads_guard, 2), *links = table_at(links_guard, 4);
+        struct blend_index n = blend_index(table, FOUR, 4, huge[i], heads, 2, links, 4);
+
+        HOLDS(n.refusal == 14 && n.buckets == huge[i] && n.rows == 4 && left(heads, 0, 2) && left(links, 0, 4));
+        n = blend_index(table, FOUR, huge[i], 2, heads, 2, links, 4);
+        HOLDS(n.refusal == 13 && zeros(&n, sizeof n, 1) && left(heads, 0, 2) && left(links, 0, 4));
+    }
+    HOLDS(blend_index((uint64_t *)guard, 0, 0, 1, table_at(heads_guard, 1), 1, (uint64_t *)links_guard, 0).refusal == 0);
+    HOLDS(((uint64_t *)heads_guard)[-1] == 0);
+}
+
+static bool found(struct blend_found f, uint64_t refusal, uint64_t kind, uint64_t row)
+{
+    return f.refusal == refusal && f.kind == kind && f.row == row && f.buckets == 0 && f.rows == 0;
+}
+
+static struct blend_found find_by(uint8_t *guard, uint8_t *heads_guard, uint8_t *links_guard, const uint64_t heads[2], const uint64_t links[4], uint64_t address)
+{
+    uint64_t *first = table_at(heads_guard, 2), *next = table_at(links_guard, 4);
+
+    memcpy(first, heads, 2 * sizeof *heads);
+    memcpy(next, links, 4 * sizeof *links);
+    return blend_find(four_rows(guard), FOUR, 4, 2, first, 2, next, 4, address);
+}
+
+static void finds(uint64_t *checks, uint8_t *guard, uint8_t *heads_guard, uint8_t *links_guard)
+{
+    static const uint64_t asked[] = {0, 15, 16, 17, 18, MOST};
+
+    for (size_t buckets = 1; buckets < 9; buckets++)
+        for (size_t i = 0; i < sizeof asked / sizeof *asked; i++) {
+            uint64_t *table = four_rows(guard), *heads = table_at(heads_guard, buckets), *links = table_at(links_guard, 4);
+            struct blend_pointer plain = blend_lookup(table, FOUR, 4, asked[i]);
+
+            HOLDS(blend_index(table, FOUR, 4, buckets, heads, buckets, links, 4).refusal == 0);
+            HOLDS(found(blend_find(table, FOUR, 4, buckets, heads, buckets, links, 4, asked[i]), 0, plain.kind, plain.row));
+        }
+}
+
+/* Numbers that no building left. */
+static void odd_chains(uint64_t *checks, uint8_t *g, uint8_t *h, uint8_t *l)
+{
+    static const uint64_t one[2] = {1, 1}, three[2] = {3, 3}, four_first[2] = {4, 4}, past[2] = {5, 5}, most[2] = {MOST, MOST}, none[2] = {0, 0};
+    static const uint64_t stays[4] = {1, 2, 3, 4}, falls[4] = {0, 0, 2, 0}, leaves[4] = {5, 5, 5, 5}, leaps[4] = {4, 0, 4, MOST}, ends[4] = {0, 0, 0, 0};
+
+    HOLDS(found(find_by(g, h, l, one, stays, 16), 13, 0, 0) && found(find_by(g, h, l, three, falls, 16), 13, 0, 0));
+    HOLDS(found(find_by(g, h, l, one, leaves, 16), 13, 0, 0) && found(find_by(g, h, l, past, ends, 16), 13, 0, 0));
+    HOLDS(found(find_by(g, h, l, most, ends, 16), 13, 0, 0) && found(find_by(g, h, l, none, stays, 16), 0, 2, 0));
+    HOLDS(found(find_by(g, h, l, one, leaps, 16), 0, 1, 3) && found(find_by(g, h, l, four_first, leaps, 16), 0, 1, 3));
+    HOLDS(found(find_by(g, h, l, three, leaps, 17), 0, 1, 2) && found(find_by(g, h, l, one, ends, 16), 0, 2, 0));
+    HOLDS(found(find_by(g, h, l, most, stays, 0), 0, 0, 0));
+}
+
+static void finds_refused(uint64_t *checks, uint8_t *guard, uint8_t *heads_guard, uint8_t *links_guard)
+{
+    for (size_t i = 0; i < 5 * 6 * 6; i++) {
+        size_t buckets = i % 5, heads_numbers = i / 5 % 6, links_numbers = i / 30;
+        uint64_t *table = four_rows(guard), *heads = table_at(heads_guard, heads_numbers), *links = table_at(links_guard, links_numbers);
+        struct blend_found f = blend_find(table, FOUR, 4, buckets, heads, heads_numbers, links, links_numbers, 0);
+        bool is_short = buckets == 0 || heads_numbers < buckets || links_numbers < 4;
+
+        HOLDS(is_short ? f.refusal == 14 && f.buckets == (buckets == 0 ? 1 : buckets) && f.rows == 4 && f.kind == 0 && f.row == 0 : found(f, 0, 0, 0));
+        HOLDS(found(blend_find(table + 1, FOUR - 1, 4, buckets, heads, heads_numbers, links, links_numbers, 0), 13, 0, 0));
+    }
+}
+
 /* ---- Values */
 
 static void values(uint64_t *checks, uint8_t *guard)
@@ -416,7 +523,7 @@ static void values(uint64_t *checks, uint8_t *guard)
 
 int main(void)
 {
-    uint8_t *bytes = guarded(), *lent = guarded();
+    uint8_t *bytes = guarded(), *lent = guarded(), *heads = guarded(), *links = guarded();
     uint64_t count = 0, *checks = &count;
 
     headers(checks, bytes);
@@ -433,6 +540,10 @@ int main(void)
     views(checks, bytes, lent);
     views_of_no_row(checks, bytes, lent);
     addresses(checks, lent);
+    indexes(checks, lent, heads, links);
+    finds(checks, lent, heads, links);
+    odd_chains(checks, lent, heads, links);
+    finds_refused(checks, lent, heads, links);
     values(checks, bytes);
     HOLDS(EXAMPLE == 120 && PAYLOAD == 52);
     printf("%lu checks hold\n", count);

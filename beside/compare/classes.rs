@@ -1,4 +1,4 @@
-//! Counting inputs by kind and by the Rust's answer, and the least that a full run must have of each class.
+//! Counting inputs by kind and by the answer that ours is held against, and the least that a full run must have of each class.
 
 use crate::records::Input;
 use std::collections::BTreeMap;
@@ -19,6 +19,7 @@ impl Classes {
             b'F' => self.file(first, rust),
             b'P' => rust.iter().for_each(|line| self.value(line)),
             b'C' | b'c' => self.catalogue(input.kind, first, rust),
+            b'I' => self.index(rust),
             kind => self.count(kind, head(first)),
         }
     }
@@ -51,12 +52,20 @@ impl Classes {
         }
     }
 
+    /// What building says, and what the search says of the tables that came in.
+    fn index(&mut self, model: &[String]) {
+        self.count(b'I', head(model.first().map_or("", |line| &line[..])));
+        if let Some(line) = model.get(3) {
+            self.count(b'I', &format!("search {}", head(line)));
+        }
+    }
+
     pub fn print(&self) {
         println!("inputs by kind:");
         for (kind, count) in &self.kinds {
             println!("  {:9}  {}", count, kind);
         }
-        println!("inputs by kind and the Rust's answer (of P, each line):");
+        println!("inputs by kind and answer (of P, each line; of I, the first and the fourth):");
         for (class, count) in &self.answers {
             println!("  {:9}  {}", count, class);
         }
@@ -65,17 +74,34 @@ impl Classes {
     /// The classes with fewer inputs than a full run must have.
     pub fn thin(&self) -> Vec<String> {
         let count = |class: &str| *self.answers.get(class).unwrap_or(&0);
-        let thin = minimums().into_iter().filter(|(class, least)| count(class) < *least);
+        let least = match self.kinds.keys().next() {
+            Some('a') => indexed_minimums(),
+            Some('I') => index_minimums(),
+            _ => minimums(),
+        };
+        let thin = least.into_iter().filter(|(class, least)| count(class) < *least);
         thin.map(|(class, least)| format!("{}: {} of at least {}", class, count(&class), least)).collect()
     }
 }
 
 /// An answer's first word; of a refusal, with its number.
 fn head(line: &str) -> &str {
-    if line.starts_with("refused ") {
-        return line;
+    let words = if line.starts_with("refused ") { 2 } else { 1 };
+    match line.match_indices(' ').nth(words - 1) {
+        Some((end, _)) => &line[..end],
+        None => line,
     }
-    line.split(' ').next().unwrap_or("")
+}
+
+/// Of indexes over any numbers.
+fn index_minimums() -> Vec<(String, u64)> {
+    let answers = ["built", "refused 13", "refused 14", "search null", "search found", "search missing", "search refused 13", "search refused 14"];
+    answers.iter().map(|answer| (format!("I {}", answer), 500)).collect()
+}
+
+/// Of searches through an index.
+fn indexed_minimums() -> Vec<(String, u64)> {
+    [("found", 500), ("missing", 500), ("null", 500), ("refused 2", 200)].iter().map(|(kind, least)| (format!("a {}", kind), *least)).collect()
 }
 
 fn minimums() -> Vec<(String, u64)> {

@@ -1,8 +1,8 @@
 //! Compares the answers of two sides to one batch.
 //!
-//! usage: compare BATCH RUST OTHER [--no-minimums]
+//! usage: compare BATCH RUST OTHER [--no-minimums] [--model]
 //!
-//! RUST has the oracle's answers and OTHER those of the side that is compared, in the same form. Prints how many inputs gave each answer
+//! RUST has the oracle's answers, or with `--model` those of a model, and OTHER those of the side that is compared, in the same form. From a model no difference is listed. Prints how many inputs gave each answer
 //! and how often each listed difference occurred. Exit 1: a difference that is not listed (the first five are printed), answers that end
 //! early or late, or a class with too few inputs, which `--no-minimums` allows. Exit 2: a file that cannot be read.
 
@@ -25,6 +25,8 @@ struct Comparison {
     classes: Classes,
     listed: BTreeMap<&'static str, u64>,
     differing: u64,
+    /// Who answers for OTHER to be held against.
+    side: &'static str,
     /// The last input, if it was a declarator that is not UTF-8, with the other side's answer to it.
     waiting: Option<(Input, Vec<String>)>,
 }
@@ -32,10 +34,11 @@ struct Comparison {
 fn main() {
     let mut paths: Vec<String> = std::env::args().skip(1).collect();
     let all = paths.len();
-    paths.retain(|argument| argument != "--no-minimums");
+    let model = paths.iter().any(|argument| argument == "--model");
+    paths.retain(|argument| argument != "--no-minimums" && argument != "--model");
     let outcome = match &paths[..] {
-        [batch, rust, other] => run(batch, rust, other, all == paths.len()),
-        _ => Err(io::Error::new(io::ErrorKind::InvalidInput, "usage: compare BATCH RUST OTHER [--no-minimums]")),
+        [batch, rust, other] => run(batch, rust, other, all == paths.len(), if model { "model" } else { "Rust" }),
+        _ => Err(io::Error::new(io::ErrorKind::InvalidInput, "usage: compare BATCH RUST OTHER [--no-minimums] [--model]")),
     };
     match outcome {
         Ok(true) => {}
@@ -47,8 +50,8 @@ fn main() {
     }
 }
 
-fn run(batch: &str, rust: &str, other: &str, minimums: bool) -> io::Result<bool> {
-    let mut comparison = Comparison::default();
+fn run(batch: &str, rust: &str, other: &str, minimums: bool, side: &'static str) -> io::Result<bool> {
+    let mut comparison = Comparison { side, ..Comparison::default() };
     let whole = comparison.read(Batch::open(batch)?, Answers::open(rust)?, Answers::open(other)?)?;
     comparison.print();
     let thin = if minimums { comparison.classes.thin() } else { Vec::new() };
@@ -65,7 +68,7 @@ impl Comparison {
             match (rust.next()?, other.next()?) {
                 (Some(rust), Some(other)) => self.add(input, rust, other),
                 (rust, _) => {
-                    let side = if rust.is_none() { "Rust" } else { "other side" };
+                    let side = if rust.is_none() { self.side } else { "other side" };
                     println!("the answers of the {} end after {} inputs", side, self.inputs);
                     return Ok(false);
                 }
@@ -86,7 +89,9 @@ impl Comparison {
         let asked = rust != ["not-utf8"] || std::str::from_utf8(&input.bytes).is_ok();
         if !asked {
             self.waiting = Some((input, other));
-        } else if rust != other || unsound(&rust) {
+        } else if self.side == "model" && rust != other {
+            self.differ(&input, &rust, &other);
+        } else if self.side != "model" && (rust != other || unsound(&rust)) {
             self.judge(&input, &rust, &other);
         }
     }
@@ -128,7 +133,7 @@ impl Comparison {
             return;
         }
         println!("input {} differs: {} {}", self.inputs, input.kind as char, hex(&input.bytes));
-        rust.iter().for_each(|line| println!("  Rust   {}", line));
+        rust.iter().for_each(|line| println!("  {:5}  {}", self.side, line));
         other.iter().for_each(|line| println!("  other  {}", line));
     }
 

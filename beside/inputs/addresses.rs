@@ -7,6 +7,15 @@ use crate::scenes::{address, Block, Form, Scene};
 use std::io::{self, Write};
 
 pub fn write<W: Write>(random: &mut Random, count: usize, batch: &mut Batch<W>) -> io::Result<()> {
+    write_as(b'A', random, count, batch)
+}
+
+/// The same searches, through an index.
+pub fn write_indexed<W: Write>(random: &mut Random, count: usize, batch: &mut Batch<W>) -> io::Result<()> {
+    write_as(b'a', random, count, batch)
+}
+
+fn write_as<W: Write>(kind: u8, random: &mut Random, count: usize, batch: &mut Batch<W>) -> io::Result<()> {
     batch.allow(count);
     for number in 0..count {
         let form = Form::numbered(number);
@@ -17,7 +26,7 @@ pub fn write<W: Write>(random: &mut Random, count: usize, batch: &mut Batch<W>) 
         } else {
             input.extend(scene.bytes());
         }
-        batch.put(b'A', &input)?;
+        batch.put(kind, &input)?;
     }
     Ok(())
 }

@@ -1,6 +1,9 @@
 //! Inputs for the oracle and for the side it is compared with.
 //!
 //! usage: inputs SEED COUNT [FILE ..] > batch
+//!        inputs --indexed SEED COUNT > batch
+//!
+//! The second form writes searches for an address alone, which are made through an index. Of the first:
 //!
 //! COUNT inputs come from the seed alone; document 01's examples and the files that are given come before them. The shares, in hundredths of
 //! COUNT:
@@ -48,15 +51,24 @@ const SECTIONS: [(usize, Section); 8] = [
 
 fn main() {
     let arguments: Vec<String> = std::env::args().skip(1).collect();
-    let number = |at: usize| arguments.get(at).and_then(|text| text.parse::<u64>().ok());
+    let indexed = arguments.first().map_or(false, |word| word == "--indexed");
+    let words = &arguments[indexed as usize..];
+    let number = |at: usize| words.get(at).and_then(|text| text.parse::<u64>().ok());
     let outcome = match (number(0), number(1)) {
-        (Some(seed), Some(count)) => run(seed, count as usize, &arguments[2..]),
-        _ => Err(io::Error::new(io::ErrorKind::InvalidInput, "usage: inputs SEED COUNT [FILE ..] > batch")),
+        (Some(seed), Some(count)) if indexed => run_indexed(seed, count as usize),
+        (Some(seed), Some(count)) => run(seed, count as usize, &words[2..]),
+        _ => Err(io::Error::new(io::ErrorKind::InvalidInput, "usage: inputs [--indexed] SEED COUNT [FILE ..] > batch")),
     };
     if let Err(error) = outcome {
         eprintln!("inputs: {}", error);
         std::process::exit(2);
     }
+}
+
+fn run_indexed(seed: u64, count: usize) -> io::Result<()> {
+    let mut batch = Batch::new(io::stdout());
+    addresses::write_indexed(&mut Random::new(seed), count, &mut batch)?;
+    batch.flush()
 }
 
 fn run(seed: u64, count: usize, files: &[String]) -> io::Result<()> {

@@ -1,4 +1,4 @@
-//! The search for an address, and the code of each block.
+//! The search for an address, and the code of each block; and the search alone, as often as the library makes it through an index.
 
 use crate::file::number;
 use crate::parsers::blend::{Block, RawBlend};
@@ -7,21 +7,38 @@ use crate::runtime::{code_of, search, PointerInfo};
 
 /// `input` is 8 bytes of address, little-endian, and a whole file.
 pub fn answer(input: &[u8], out: &mut String) {
+    asked(input, out, found)
+}
+
+/// Through indexes of five numbers of buckets: the Rust has none, and finds the same each time.
+pub fn index_answer(input: &[u8], out: &mut String) {
+    asked(input, out, |mut blend, address, out| {
+        as_asked(&mut blend);
+        let words = words(&blend, address);
+        (0..5).for_each(|_| line!(out, "{}", words));
+    })
+}
+
+fn asked(input: &[u8], out: &mut String, tell: impl Fn(RawBlend, &[u8], &mut String)) {
     if input.len() < 8 {
         return line!(out, "bad-input");
     }
     let (address, file) = input.split_at(8);
     match RawBlend::from_data(file) {
-        Ok(blend) => found(blend, address, out),
+        Ok(blend) => tell(blend, address, out),
         Err(error) => line!(out, "refused {}", number(&error)),
     }
 }
 
-fn found(mut blend: RawBlend, address: &[u8], out: &mut String) {
-    let narrow = in_form_of_file(&blend, address).map(|pointer| words(&blend, &pointer));
-    // The search itself is over whole addresses; only reading the pointer follows the header. Put so, every address can be asked.
+/// The search itself is over whole addresses; only reading the pointer follows the header. Put so, every address can be asked.
+fn as_asked(blend: &mut RawBlend) {
     blend.header.pointer_size = PointerSize::Bits64;
     blend.header.endianness = Endianness::Little;
+}
+
+fn found(mut blend: RawBlend, address: &[u8], out: &mut String) {
+    let narrow = in_form_of_file(&blend, address).map(|pointer| words(&blend, &pointer));
+    as_asked(&mut blend);
     let wide = words(&blend, address);
     if narrow.map_or(false, |narrow| narrow != wide) {
         return line!(out, "oracle-inconsistent");

@@ -15,6 +15,7 @@
 //! - `N`, whatever the input: `KIND NAME` for each kind of primitive value.
 //! - `A`, an address of 8 bytes, little-endian, and a whole file: `null`, `found ROW` or `missing`, then for each row `code CODE` or
 //!   `code none`; or `refused N`.
+//! - `a`, the same input: `null`, `found ROW` or `missing`, five times; or `refused N`.
 //!
 //! Any answer may be `panic`, where the Rust panics; `memory`, for an input longer than `memory::LONGEST`, which is not asked; and
 //! `oracle-inconsistent`, where two readings by the Rust differ.
@@ -100,6 +101,7 @@ fn answer(kind: u8, bytes: &[u8]) -> String {
             b'P' => values::answer(bytes, &mut text),
             b'N' => values::names(&mut text),
             b'A' => address::answer(bytes, &mut text),
+            b'a' => address::index_answer(bytes, &mut text),
             _ => text.push_str("bad-kind\n"),
         }
         text

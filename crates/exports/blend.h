@@ -7,7 +7,8 @@
  * reads and writes: a file that is mapped and that another program writes to is best copied first.
  *
  * In every answer `refusal` is 0, or the number of a refusal. On a refusal the tables hold what they held, and every number of the answer that the refusal does not
- * carry is 0 and says nothing: look at `refusal` first. On an answer `needed` and `table` are 0, and a table's numbers past those used are as they were.
+ * carry is 0 and says nothing: look at `refusal` first. On an answer what a refusal carries (`needed` and `table`; of an index `buckets` and `rows`) is 0, and a
+ * table's numbers past those used are as they were.
  *
  *    1  the file does not begin with "BLENDER": it is compressed, or no .blend file
  *    2  malformed: a byte is missing, or a mark is wrong
@@ -22,6 +23,7 @@
  *   11  the table of dimensions is too short; `needed` has how many there are
  *   12  a value's slice is too short
  *   13  a row, or the bytes that it tells of, are not there
+ *   14  no bucket, or a table of an index is too short; `buckets` and `rows` have the numbers that heads and links need
  *
  * The earliest fault is reported; 7, 8 and 11 come only when all else reads (but 11 before 10).
  *
@@ -113,6 +115,26 @@ struct blend_pointer {
     uint64_t refusal, kind, row;
 };
 struct blend_pointer blend_lookup(const uint64_t *table, size_t numbers, size_t rows, uint64_t address);
+
+/* An index over the first `rows` rows of the table (as many as blend_read answered), by which addresses are found without going over the rows. Each row falls into the
+ * bucket that its address modulo `buckets` is, whatever its kind, and the rows of a bucket are a chain: its head and each row's link are the number, plus 1, of the
+ * next row of that bucket, 0 at the end. heads takes `buckets` numbers, links `rows`. Take about as many buckets as there are rows, and an odd number of them,
+ * since addresses are mostly multiples of 8 (rows | 1 is one): then a chain has about one row, however large the scene. Building goes over the rows once and
+ * over the heads once. Refusals 13, where the table has fewer rows, then 14. */
+struct blend_index {
+    uint64_t refusal, buckets, rows;
+};
+struct blend_index blend_index(const uint64_t *table, size_t numbers, size_t rows, size_t buckets, uint64_t *heads, size_t heads_numbers, uint64_t *links,
+                               size_t links_numbers);
+
+/* What blend_lookup answers, by the index that blend_index left for these rows and this many buckets: kind 0 null, 1 the row, 2 nothing. It looks at the rows of one
+ * chain. Over any other numbers in heads and links it returns too. Refusals 13, where the table has fewer rows; 14; and, for an address that is not 0, 13 where its
+ * chain, before a match, leaves the rows or does not rise, so that it is none that blend_index left. */
+struct blend_found {
+    uint64_t refusal, buckets, rows, kind, row;
+};
+struct blend_found blend_find(const uint64_t *table, size_t numbers, size_t rows, size_t buckets, const uint64_t *heads, size_t heads_numbers,
+                              const uint64_t *links, size_t links_numbers, uint64_t address);
 
 /* The number that the first 1, 2, 4 or 8 bytes spell. A signed value is the same bits as a signed number of that width; a float has the bits of blend_u32 or
  * blend_u64. Refusal 12. */

@@ -13,5 +13,6 @@ pub mod Extent
 pub mod Digits
 pub mod Marks
 pub mod Filling
+pub mod Written
 pub mod Lossless
 pub mod Examples

@@ -49,6 +49,10 @@ valueSliceTooShort = refuses 12 []
 abbrev pub notThere : Paper
 notThere = refuses 13 []
 
+-- no bucket, or a table of the index is too short: the buckets, at least 1, and the rows that are needed
+abbrev pub indexTooShort : ℕ → ℕ → Paper
+indexTooShort buckets rows = refuses 14 (buckets ∷ rows ∷ [])
+
 -- A fault of a reading tree on paper. A cut and a wrong mark are both malformed, and their places are left out: this loses what it is to lose,
 -- so only what is told of a public call goes by it.
 abbrev pub paperFault : Fault → Paper

@@ -88,6 +88,9 @@ impl Fault {
     /// Refusal 13: no such row, part or place.
     pub const NOT_THERE: u64 = 13;
 
+    /// Refusal 14, with the buckets and the rows needed: no bucket, or a table of the index is too short.
+    pub const INDEX_TOO_SHORT: u64 = 14;
+
     /// The number of the refusal: a cut and a wrong mark are both malformed.
     pub fn refusal(self) -> u64
         ensures { λ r. ⌜ calls.«Fault::refusal» self r ⌝ }

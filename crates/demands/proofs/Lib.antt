@@ -5,6 +5,7 @@ pub mod Accepted
 pub mod Files
 pub mod Cover
 pub mod Kept
+pub mod Indexes
 pub mod Unaltered
 pub mod Exported
 pub mod Walked

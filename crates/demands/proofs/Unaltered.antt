@@ -13,6 +13,7 @@ use Rattle.bytes.specs.Paper.Paper.{accepts, integer, real, refuses}
 use Rattle.bytes.specs.Reader.{Reader, Outcome, run, room}
 use Rattle.bytes.specs.Reader.Outcome.{read}
 use Rattle.bytes.specs.Tables.{over, written}
+use Rattle.bytes.proofs.Written.{wrote, written-over}
 use Rattle.bytes.proofs.Tests.{held}
 use Rattle.dna.specs.declared.dna.DnaCounts.{DnaCounts}
 use Rattle.dna.specs.Catalogue.{Dna, rooms, catalogue, readAs as catalogueAs, rowsOf as catalogueRows, pairs, typeRows, structRows, fieldRows}
@@ -38,6 +39,7 @@ use Rattle.bytes.specs.Looks.{Untouched}
 use Rattle.demands.proofs.Accepted.{Accepted, accepted}
 use Rattle.demands.proofs.Files.{Filed, filed, file-linked, first-inside}
 use Rattle.demands.proofs.HeaderTrees.{header-tree}
+use Rattle.demands.proofs.Indexes.{same-index}
 use Rattle.demands.proofs.Kept.{none-before, Near, kept, dna-near, rest-near}
 use Rattle.blend.proofs.Links.{Linked, chained, linked-ends}
 use Rattle.bytes.proofs.Own.{window}
@@ -69,20 +71,6 @@ module _ (s t : List ℕ) (row : ℕ) (k : row < length t / perRow) (m : rowSpel
   part-there : partAs s t row ≡ payloadOf s (rowSpelt t row)
   unfolding partAs
   part-there = held _ _ there
-
--- what a call writes by its answer's paper
-wrote : Paper → List ℕ → List ℕ
-wrote (accepts n vs) new = new
-wrote (integer i) new = new
-wrote (real x) new = new
-wrote (refuses n vs) new = []
-
-written-over : (p : Paper) (new t : List ℕ) → written p new t ≡ over (wrote p new) t
-unfolding wrote
-written-over (accepts n vs) new t = refl
-written-over (integer i) new t = refl
-written-over (real x) new t = refl
-written-over (refuses n vs) new t = refl
 
 -- the same payload, the same catalogue
 same-catalogue : (e : Endianness) (p q : List ℕ) → q ≡ p → SameCatalogue e p q
@@ -143,16 +131,18 @@ module _ (header : Reader HeaderBytes) (tree : HeaderTree header) (s z : List �
 over-long : (new t : List ℕ) → length new ≤ length t → length (over new t) ≡ length t
 over-long new t k = length-append new (drop (length new) t) ∙ omega (arith, length-drop (length new) t)
 
+table-kept : (o : Outcome File) (t t′ : List ℕ) (b : RawBlend) → Accepted o t t′ b → length t′ ≡ length t
+table-kept o t t′ b a =
+    let rs = a .file .chain .rows in
+    ap length (a .table) ∙ over-long (rowTable rs) t (omega (arith, table-length rs, a .fits))
+
 -- a row of the table, by its number
 module _ (o : Outcome File) (t t′ : List ℕ) (b : RawBlend) (a : Accepted o t t′ b) (row : ℕ) (k : row < b .rows) where
   counted : length (a .file .chain .rows) ≡ b .rows
   counted = ap (λ (x : RawBlend). x .rows) (sym (a .answer))
 
   row-there : row < length t′ / perRow
-  row-there =
-      let rs = a .file .chain .rows in
-      let m : length t′ ≡ length t = ap length (a .table) ∙ over-long (rowTable rs) t (omega (arith, table-length rs, a .fits)) in
-      omega (arith, m, a .fits, counted)
+  row-there = omega (arith, table-kept o t t′ b a, a .fits, counted)
 
   row-spelt : getD (a .file .chain .rows) row none ≡ rowSpelt t′ row
   row-spelt =
@@ -228,6 +218,9 @@ module _ (header : Reader HeaderBytes) (tree : HeaderTree header) (s t t′ : Li
         (dna-kept (one .file .header) s z rows (one .first) Last.Other (b .dna) (b .end) linked (like .long)
         (near header tree s z (one .file) (one .first) (b .dna) (b .end) (one .found) (one .last) like) row (omega (arith, counted (fileBy header s) t t′ b one row k)) q))
 
+  tables-long : length u′ ≡ length t′
+  tables-long = table-kept (fileBy header s) u u′ b two ∙ long ∙ sym (table-kept (fileBy header s) t t′ b one)
+
   stays : Stays s t t′ (b .rows) (b .header .endianness) z u u′
   stays =
       record {
@@ -237,6 +230,7 @@ module _ (header : Reader HeaderBytes) (tree : HeaderTree header) (s t t′ : Li
         );
         views = views;
         catalogues = λ row k d. (dna-shown row k d, same-catalogue (b .header .endianness) (partAs s t′ row) (partAs z u′ row) (dna-shown row k d));
+        index = λ m buckets k. same-index t′ u′ m buckets tables-long (λ i j. ap (λ (r : Row). r .address) (spelt i (omega arith)));
       }
 
 pub unaltered : NoOtherObjectBy

@@ -24,7 +24,12 @@ use Rattle.walker.specs.Walker.{start, Stop, Walk}
 use Rattle.walker.specs.Walker.Stop.{ended, refused}
 use Rattle.runtime.specs.declared.runtime.BlockCode.{BlockCode}
 use Rattle.runtime.specs.declared.runtime.Pointer.{Pointer}
+use Rattle.runtime.specs.Addresses.{paperPointer}
 use Rattle.runtime.specs.Calls as runtime
+use Rattle.index.specs.declared.index.Indexed.{Indexed}
+use Rattle.index.specs.declared.index.IndexPointer.{IndexPointer}
+use Rattle.index.specs.Index.{paperFound}
+use Rattle.index.specs.Calls as index
 use Rattle.held.specs.declared.Walker.{Walker}
 use Rattle.held.specs.Calls as held
 use Rattle.held.specs.Walks.{HeldWalk}
@@ -48,6 +53,15 @@ HeldWalksAsRead = (file : RefT (List ℕ)) (w : Walker) → held.over file w →
 pub record OneSearch : Type 0 where
   pub of-table : (t : List ℕ) (n address : ℕ) (r q : Pointer) → held.«find_row» (spelt t) n address r → runtime.«runtime::get_ptr» t n address q → r ≡ q
   pub of-rows : (rows : List Row) (n address : ℕ) (r q : Pointer) → held.«find_row» rows n address r → runtime.«runtime::get_ptr» (rowTable rows) n address q → r ≡ q
+
+-- The index (request 1): "A lookup through it answers as the plain lookup does for every address .. where it was built from those rows with that bucket count". What
+-- counts of the index tables are the first numbers, as the building left them.
+abbrev pub IndexAsPlain : Type 0
+IndexAsPlain =
+    (t : List ℕ) (rows buckets : ℕ) (heads links heads′ links′ : List ℕ) → index.«index::build» t rows buckets heads links Indexed.Built heads′ links′
+    → (u firsts nexts : List ℕ) → rowsIn u rows ≡ rowsIn t rows → take buckets firsts ≡ take buckets heads′ → take rows nexts ≡ take rows links′
+    → (address : ℕ) (r : IndexPointer) (q : Pointer) → index.«index::find» u rows buckets firsts nexts address r → runtime.«runtime::get_ptr» u rows address q
+    → paperFound r ≡ paperPointer q
 
 -- Primitive values: "Floats are compared by their bits." The bits of a float that is answered are those that were read, and so are a NaN's.
 pub record FloatBits : Type 0 where

@@ -28,6 +28,8 @@ use Rattle.header.specs.Header.{HeaderBytes, headerBytes}
 use Rattle.walker.specs.Walker.{start, Walk}
 use Rattle.walker.specs.Walker.Stop.{ended}
 use Rattle.runtime.specs.Views.{viewAs, partAs}
+use Rattle.index.specs.declared.index.Indexed.{Indexed}
+use Rattle.index.specs.Calls.{«index::build»}
 use Rattle.held.specs.declared.Walker.{Walker}
 use Rattle.held.specs.Calls as held
 use Rattle.held.specs.Walks.{HeldWalk}
@@ -67,6 +69,14 @@ SameCatalogue e p q =
     → Filled (run (catalogue e) p 0) a n t s f n′ t′ s′ f′ → Filled (run (catalogue e) q 0) c m u v g m′ u′ v′ g′
     → (c ≡ a) × WroteSame n n′ m m′ × WroteSame t t′ u u′ × WroteSame s s′ v v′ × WroteSame f f′ g g′
 
+-- `build` over two row tables, with the same counts of rows and buckets and with index tables of the same lengths: the same answer, and the same numbers written into
+-- each table
+abbrev pub SameIndex : List ℕ → List ℕ → (rows buckets : ℕ) → Type 0
+SameIndex t u rows buckets =
+    (heads links heads′ links′ firsts nexts firsts′ nexts′ : List ℕ) (a c : Indexed) → length firsts ≡ length heads → length nexts ≡ length links
+    → «index::build» t rows buckets heads links a heads′ links′ → «index::build» u rows buckets firsts nexts c firsts′ nexts′
+    → (c ≡ a) × WroteSame heads heads′ firsts firsts′ × WroteSame links links′ nexts nexts′
+
 -- The claim of a file s that was read, with a table that held t and holds t′, so many rows in it and this byte order; and of a second file z, with a table that
 -- held u and holds u′.
 pub record Stays (s t t′ : List ℕ) (n : ℕ) (e : Endianness) (z u u′ : List ℕ) : Type 0 where
@@ -77,6 +87,8 @@ pub record Stays (s t t′ : List ℕ) (n : ℕ) (e : Endianness) (z u u′ : Li
   -- so does every DNA1's, and its catalogue is the same
   pub catalogues : (row : ℕ) → row < n → cell t′ row Column.code ≡ codeNumber "DNA1"
       → (partAs z u′ row ≡ partAs s t′ row) × SameCatalogue e (partAs s t′ row) (partAs z u′ row)
+  -- and so is an index over the rows, or over the first of them, with any bucket count
+  pub index : (m buckets : ℕ) → m ≤ n → SameIndex t′ u′ m buckets
 
 -- the claim of two answers of `blend`: where the first is no refusal, the second has the same header, number of rows, end offset and counts, and the rest stays
 abbrev pub UnalteredBy : (s t : List ℕ) → BlendAnswer → (t′ z u : List ℕ) → BlendAnswer → List ℕ → Type 0

@@ -13,14 +13,17 @@ use Rattle.blend.specs.Chain.{fileBy, readAs, tableAfter}
 use Rattle.block.specs.Rows.{Column, perRow, cell}
 use Rattle.runtime.specs.Views.{viewAs}
 use Rattle.runtime.specs.Addresses.{lookupAs}
+use Rattle.index.specs.Index.{indexedAs, headsAfter, linksAfter, foundAs}
 use Rattle.exports.specs.declared.BlendHeader.{BlendHeader}
 use Rattle.exports.specs.declared.BlendRead.{BlendRead}
 use Rattle.exports.specs.declared.BlendCatalogue.{BlendCatalogue}
 use Rattle.exports.specs.declared.BlendField.{BlendField}
 use Rattle.exports.specs.declared.BlendView.{BlendView}
 use Rattle.exports.specs.declared.BlendPointer.{BlendPointer}
+use Rattle.exports.specs.declared.BlendIndex.{BlendIndex}
+use Rattle.exports.specs.declared.BlendFound.{BlendFound}
 use Rattle.exports.specs.declared.BlendValue.{BlendValue}
-use Rattle.exports.specs.Exports.{orderOf, headerOut, readOut, Catalogued, fieldOut, declaratorOf, sizeOf, viewOut, pointerOut, valueOut}
+use Rattle.exports.specs.Exports.{orderOf, headerOut, readOut, Catalogued, fieldOut, declaratorOf, sizeOf, viewOut, pointerOut, indexOut, foundOut, valueOut}
 
 abbrev pub «blend_header» : (file : List ℕ) → BlendHeader → Type 0
 «blend_header» file r = r ≡ headerOut (headerAs (valued (run headerBytes file 0)))
@@ -42,6 +45,15 @@ abbrev pub «blend_view» : (file table : List ℕ) (row : ℕ) → BlendView �
 
 abbrev pub «blend_lookup» : (table : List ℕ) (rows address : ℕ) → BlendPointer → Type 0
 «blend_lookup» table rows address r = r ≡ pointerOut (lookupAs table rows address)
+
+abbrev pub «blend_index» : (table : List ℕ) (rows buckets : ℕ) (heads links : List ℕ) → BlendIndex → List ℕ → List ℕ → Type 0
+«blend_index» table rows buckets heads links r heads′ links′ =
+    (r ≡ indexOut (indexedAs table rows buckets heads links))
+    × (heads′ ≡ headsAfter table rows buckets heads links)
+    × (links′ ≡ linksAfter table rows buckets heads links)
+
+abbrev pub «blend_find» : (table : List ℕ) (rows buckets : ℕ) (heads links : List ℕ) (address : ℕ) → BlendFound → Type 0
+«blend_find» table rows buckets heads links address r = r ≡ foundOut (foundAs table rows buckets heads links address)
 
 abbrev pub «blend_u8» : (slice : List ℕ) (order : ℕ) → BlendValue → Type 0
 «blend_u8» slice order r = r ≡ valueOut (valueOf 1 unsigned (orderOf order) slice)

@@ -22,6 +22,8 @@ use Rattle.exports.specs.declared.BlendCatalogue.{BlendCatalogue}
 use Rattle.exports.specs.declared.BlendField.{BlendField}
 use Rattle.exports.specs.declared.BlendView.{BlendView}
 use Rattle.exports.specs.declared.BlendPointer.{BlendPointer}
+use Rattle.exports.specs.declared.BlendIndex.{BlendIndex}
+use Rattle.exports.specs.declared.BlendFound.{BlendFound}
 use Rattle.exports.specs.declared.BlendValue.{BlendValue}
 
 -- the refusal's number, what it carries, and the numbers of an answer
@@ -147,6 +149,17 @@ pointerOut (accepts k vs) = record { refusal = 0; kind = k; row = getD vs 0 0 }
 pointerOut (integer z) = record { refusal = 0; kind = 0; row = 0 }
 pointerOut (real x) = record { refusal = 0; kind = 0; row = 0 }
 pointerOut (refuses n vs) = record { refusal = n; kind = 0; row = 0 }
+
+-- of 14 the buckets and the rows needed
+abbrev pub indexOut : Paper → BlendIndex
+indexOut p = record { refusal = refusal p; buckets = carried p 0; rows = carried p 1 }
+
+-- the same; and 0 Null, 1 found, with the row, 2 Missing
+abbrev pub foundOut : Paper → BlendFound
+foundOut (accepts k vs) = record { refusal = 0; buckets = 0; rows = 0; kind = k; row = getD vs 0 0 }
+foundOut (integer z) = record { refusal = 0; buckets = 0; rows = 0; kind = 0; row = 0 }
+foundOut (real x) = record { refusal = 0; buckets = 0; rows = 0; kind = 0; row = 0 }
+foundOut (refuses n vs) = record { refusal = n; buckets = getD vs 0 0; rows = getD vs 1 0; kind = 0; row = 0 }
 
 -- a width, or a value's bits as an unsigned number
 abbrev pub valueOut : Paper → BlendValue

@@ -21,6 +21,10 @@ use header::FileFormat;
 use header::Header;
 use header::blend::HeaderAnswer;
 use header::blend::header;
+use index::index::IndexPointer;
+use index::index::Indexed;
+use index::index::build;
+use index::index::find;
 use primitive::primitive::ValueU8;
 use primitive::primitive::ValueU16;
 use primitive::primitive::ValueU32;
@@ -41,6 +45,7 @@ ghost use Rattle.dna.specs.Catalogue as catalogues;
 ghost use Rattle.field.specs.Declarators as declarators;
 ghost use Rattle.blend.specs.Chain as chains;
 ghost use Rattle.header.specs.Header as headers;
+ghost use Rattle.index.specs.Index as indexes;
 ghost use Rattle.exports.specs.Exports as rules;
 ghost use Rattle.exports.specs.Calls as calls;
 
@@ -115,6 +120,24 @@ pub struct BlendView {
 #[repr(C)]
 pub struct BlendPointer {
     pub refusal: u64,
+    pub kind: u64,
+    pub row: u64,
+}
+
+/// Whether an index was built.
+#[repr(C)]
+pub struct BlendIndex {
+    pub refusal: u64,
+    pub buckets: u64,
+    pub rows: u64,
+}
+
+/// What an address points to, by an index.
+#[repr(C)]
+pub struct BlendFound {
+    pub refusal: u64,
+    pub buckets: u64,
+    pub rows: u64,
     pub kind: u64,
     pub row: u64,
 }
@@ -514,6 +537,98 @@ pub extern "C" fn blend_lookup(table: &[u64], rows: usize, address: u64) -> Blen
             row: 0,
         },
     }
+}
+
+fn index_out(answer: Indexed) -> BlendIndex
+    ensures { λ r. ⌜ r ≡ rules.indexOut (indexes.paperIndexed answer) ⌝ }
+{
+    match answer {
+        Indexed::Built => BlendIndex {
+            refusal: 0,
+            buckets: 0,
+            rows: 0,
+        },
+        Indexed::Refused(n) => BlendIndex {
+            refusal: n,
+            buckets: 0,
+            rows: 0,
+        },
+        Indexed::TooShort(buckets, rows) => BlendIndex {
+            refusal: Fault::INDEX_TOO_SHORT,
+            buckets: buckets as u64,
+            rows: rows as u64,
+        },
+    }
+}
+
+/// Chains the rows of a table by their addresses.
+#[no_mangle]
+pub extern "C" fn blend_index(
+    table: &[u64],
+    rows: usize,
+    buckets: usize,
+    heads: &mut [u64],
+    links: &mut [u64],
+) -> BlendIndex
+    ensures { λ r. ⌜ calls.«blend_index» (now (table .entry)) rows buckets (now (heads .entry)) (now (links .entry)) r (now (heads .exit)) (now (links .exit)) ⌝ }
+{
+    let answer = build(table, rows, buckets, heads, links);
+    index_out(answer)
+}
+
+fn found_told(kind: u64, row: u64) -> BlendFound
+    ensures { λ r. ⌜ r ≡ record { refusal = 0; buckets = 0; rows = 0; kind = kind; row = row } ⌝ }
+{
+    BlendFound {
+        refusal: 0,
+        buckets: 0,
+        rows: 0,
+        kind,
+        row,
+    }
+}
+
+fn found_refused(refusal: u64, buckets: u64, rows: u64) -> BlendFound
+    ensures { λ r. ⌜ r ≡ record { refusal = refusal; buckets = buckets; rows = rows; kind = 0; row = 0 } ⌝ }
+{
+    BlendFound {
+        refusal,
+        buckets,
+        rows,
+        kind: 0,
+        row: 0,
+    }
+}
+
+fn found_out(answer: IndexPointer) -> BlendFound
+    ensures { λ r. ⌜ r ≡ rules.foundOut (indexes.paperFound answer) ⌝ }
+{
+    match answer {
+        IndexPointer::Null => found_told(0, 0),
+        IndexPointer::Block(row) => found_told(1, row as u64),
+        IndexPointer::Missing => found_told(2, 0),
+        IndexPointer::Refused(n) => found_refused(n, 0, 0),
+        IndexPointer::TooShort(buckets, rows) => found_refused(
+            Fault::INDEX_TOO_SHORT,
+            buckets as u64,
+            rows as u64,
+        ),
+    }
+}
+
+/// The row that an address points to, by an index.
+#[no_mangle]
+pub extern "C" fn blend_find(
+    table: &[u64],
+    rows: usize,
+    buckets: usize,
+    heads: &[u64],
+    links: &[u64],
+    address: u64,
+) -> BlendFound
+    ensures { λ r. ⌜ calls.«blend_find» (now (table .entry)) rows buckets (now (heads .entry)) (now (links .entry)) address r ⌝ }
+{
+    found_out(find(table, rows, buckets, heads, links, address))
 }
 
 /// The unsigned number of one byte that a slice begins with.

@@ -3,6 +3,7 @@ use Rattle.demands.proofs.Cover.{every-block}
 use Rattle.demands.proofs.Unaltered.{no-other-object}
 use Rattle.demands.proofs.Exported.{every-block-exported, no-other-object-exported}
 use Rattle.demands.proofs.Walked.{every-block-walked, every-block-held, no-other-object-walked, no-other-object-held}
+use Rattle.demands.proofs.Indexes.{index-as-plain}
 use Rattle.demands.proofs.Sentences.{walks-as-read, held-walks-as-read, one-search, float-bits-read, code-bytes, names}
 use Rattle.demands.proofs.Examples.{at-the-edges, scenes-are-read}
 use Rattle.promises.specs.Promises.{Promises}
@@ -23,6 +24,7 @@ promises =
       walks-as-read = walks-as-read;
       held-walks-as-read = held-walks-as-read;
       one-search = one-search;
+      index-as-plain = index-as-plain;
       float-bits = float-bits-read;
       code-bytes = code-bytes;
       names = names;

@@ -15,12 +15,14 @@ use Rattle.block.specs.Calls.{«BlockHeader::new», «Kind::of_code», «About:
 use Rattle.blend.specs.Calls.{«blend::boundary_at», «blend::blend»}
 use Rattle.walker.specs.Calls.{«Place::start», «Place::step»}
 use Rattle.runtime.specs.Calls.{«runtime::view», «runtime::view_part», «runtime::matches», «runtime::get_ptr», «runtime::code»}
+use Rattle.index.specs.Calls.{«index::build», «index::find»}
 use Rattle.held.specs.Calls.{«step_at», «over», «next», «moved», «step_from», «row_is», «find_row», «find_in»}
-use Rattle.exports.specs.Calls.{«blend_header», «blend_read», «blend_catalogue», «blend_field», «blend_width», «blend_view», «blend_lookup», «blend_u8», «blend_u16», «blend_u32», «blend_u64»}
+use Rattle.exports.specs.Calls.{«blend_header», «blend_read», «blend_catalogue», «blend_field», «blend_width», «blend_view», «blend_lookup», «blend_index», «blend_find», «blend_u8», «blend_u16», «blend_u32», «blend_u64»}
 use Rattle.demands.specs.Calls.{«read», «read_two»}
 use Rattle.field.specs.Declarators.{paperField}
 use Rattle.dna.specs.Catalogue.{paperTables}
 use Rattle.blend.specs.Chain.{paperBlend}
+use Rattle.index.specs.Index.{paperIndexed}
 use Rattle.bytes.proofs as bytes
 use Rattle.primitive.proofs as primitive
 use Rattle.field.proofs as field
@@ -30,6 +32,7 @@ use Rattle.block.proofs as block
 use Rattle.blend.proofs as blend
 use Rattle.walker.proofs as walker
 use Rattle.runtime.proofs as runtime
+use Rattle.index.proofs as index
 use Rattle.held.proofs as held
 use Rattle.exports.proofs as exports
 use Rattle.demands.proofs as demands
@@ -102,6 +105,8 @@ pub data PublicCall : Type 0 where
   «runtime::runtime::matches» : PublicCall
   «runtime::runtime::get_ptr» : PublicCall
   «runtime::runtime::code» : PublicCall
+  «index::index::build» : PublicCall
+  «index::index::find» : PublicCall
   «held::step_at» : PublicCall
   «held::over» : PublicCall
   «held::next» : PublicCall
@@ -117,6 +122,8 @@ pub data PublicCall : Type 0 where
   «exports::blend_width» : PublicCall
   «exports::blend_view» : PublicCall
   «exports::blend_lookup» : PublicCall
+  «exports::blend_index» : PublicCall
+  «exports::blend_find» : PublicCall
   «exports::blend_u8» : PublicCall
   «exports::blend_u16» : PublicCall
   «exports::blend_u32» : PublicCall
@@ -203,6 +210,10 @@ publicCall «runtime::runtime::view_part» = shows runtime.runtime.view_part.end
 publicCall «runtime::runtime::matches» = call runtime.runtime.matches.ended runtime.runtime.matches.Symbol.routine (λ κs (wanted, (code, (address, _))) r e. «runtime::matches» wanted code address r)
 publicCall «runtime::runtime::get_ptr» = call runtime.runtime.get_ptr.ended runtime.runtime.get_ptr.Symbol.routine (λ κs (table, (rows, (address, _))) r e. «runtime::get_ptr» (now table) rows address r)
 publicCall «runtime::runtime::code» = call runtime.runtime.code.ended runtime.runtime.code.Symbol.routine (λ κs (number, _) r e. «runtime::code» number r)
+publicCall «index::index::build» =
+    lends index.index.build.ended index.index.build.Symbol.routine (λ κs (table, (rows, (buckets, (heads, (links, _))))) r (_, (_, (_, (heads′, (links′, _))))). «index::build» (now table) rows buckets (now heads) (now links) r (now heads′) (now links′))
+    (λ κs (_, (_, (_, (heads, (links, _))))) r (_, (_, (_, (heads′, (links′, _))))). Refused (paperIndexed r) → (heads′ ≡ now heads) × (links′ ≡ now links))
+publicCall «index::index::find» = call index.index.find.ended index.index.find.Symbol.routine (λ κs (table, (rows, (buckets, (heads, (links, (address, _)))))) r e. «index::find» (now table) rows buckets (now heads) (now links) address r)
 publicCall «held::step_at» = call held.step_at.ended held.step_at.Symbol.routine (λ κs (file, (place, _)) r e. «step_at» (now file) place r)
 publicCall «held::over» = call held.over.ended held.over.Symbol.routine (λ κs (file, _) r e. «over» file r)
 publicCall «held::next» = call held.next.ended held.next.Symbol.routine (λ κs (w, _) r e. «next» w r)
@@ -224,6 +235,10 @@ publicCall «exports::blend_field» =
 publicCall «exports::blend_width» = call exports.blend_width.ended exports.blend_width.Symbol.routine (λ κs (kind, (length, (size, («pointer_bytes», _)))) r e. «blend_width» kind length size «pointer_bytes» r)
 publicCall «exports::blend_view» = call exports.blend_view.ended exports.blend_view.Symbol.routine (λ κs (file, (table, (row, _))) r e. «blend_view» (now file) (now table) row r)
 publicCall «exports::blend_lookup» = call exports.blend_lookup.ended exports.blend_lookup.Symbol.routine (λ κs (table, (rows, (address, _))) r e. «blend_lookup» (now table) rows address r)
+publicCall «exports::blend_index» =
+    lends exports.blend_index.ended exports.blend_index.Symbol.routine (λ κs (table, (rows, (buckets, (heads, (links, _))))) r (_, (_, (_, (heads′, (links′, _))))). «blend_index» (now table) rows buckets (now heads) (now links) r (now heads′) (now links′))
+    (λ κs (_, (_, (_, (heads, (links, _))))) r (_, (_, (_, (heads′, (links′, _))))). Nonzero (r .refusal) → (heads′ ≡ now heads) × (links′ ≡ now links))
+publicCall «exports::blend_find» = call exports.blend_find.ended exports.blend_find.Symbol.routine (λ κs (table, (rows, (buckets, (heads, (links, (address, _)))))) r e. «blend_find» (now table) rows buckets (now heads) (now links) address r)
 publicCall «exports::blend_u8» = call exports.blend_u8.ended exports.blend_u8.Symbol.routine (λ κs (slice, (order, _)) r e. «blend_u8» (now slice) order r)
 publicCall «exports::blend_u16» = call exports.blend_u16.ended exports.blend_u16.Symbol.routine (λ κs (slice, (order, _)) r e. «blend_u16» (now slice) order r)
 publicCall «exports::blend_u32» = call exports.blend_u32.ended exports.blend_u32.Symbol.routine (λ κs (slice, (order, _)) r e. «blend_u32» (now slice) order r)

@@ -2,7 +2,7 @@
 -- the check has checked.
 use Rattle.demands.specs.Cover.{EveryBlock, EveryBlockExported, EveryBlockWalked, EveryBlockHeld}
 use Rattle.demands.specs.Unaltered.{NoOtherObject, NoOtherObjectExported, NoOtherObjectWalked, NoOtherObjectHeld}
-use Rattle.demands.specs.Sentences.{WalksAsRead, HeldWalksAsRead, OneSearch, FloatBits, CodeBytes, Names}
+use Rattle.demands.specs.Sentences.{WalksAsRead, HeldWalksAsRead, OneSearch, IndexAsPlain, FloatBits, CodeBytes, Names}
 use Rattle.demands.specs.Examples.{AtTheEdges, ScenesAreRead}
 use Rattle.promises.specs.Keeps.{Holds}
 use Rattle.promises.specs.Calls.{PublicCall, publicCall}
@@ -16,7 +16,7 @@ pub record Promises : Type 2 where
   pub every-block-walked : EveryBlockWalked
   pub every-block-held : EveryBlockHeld
   -- a second file that differs only inside payloads of blocks other than DNA1, or in any way after the end mark, is read too: same header, same rows, same catalogue,
-  -- and every untouched payload shows the same bytes
+  -- same index, and every untouched payload shows the same bytes
   pub no-other-object : NoOtherObject
   pub no-other-object-exported : NoOtherObjectExported
   pub no-other-object-walked : NoOtherObjectWalked
@@ -26,6 +26,8 @@ pub record Promises : Type 2 where
   pub held-walks-as-read : HeldWalksAsRead
   -- the search over row records answers as the one over numbers
   pub one-search : OneSearch
+  -- through an index that was built from these rows the search answers as the plain one does
+  pub index-as-plain : IndexAsPlain
   -- the bits of a float are those that were read, the bytes of a code those that it was read from, and the names are the Rust's
   pub float-bits : FloatBits
   pub code-bytes : CodeBytes

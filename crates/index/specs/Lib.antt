@@ -1,0 +1,4 @@
+-- The rules of the index.
+pub mod Index
+pub mod Helpers
+pub mod Calls
