@@ -794,17 +794,17 @@ static bool ask_for(const char *word)
 
 static bool set_mode(enum mode *mode, const char *word)
 {
-    enum mode asked = mode_of(word);
+    enum mode wanted = mode_of(word);
 
-    if (asked == LISTING) {
+    if (wanted == LISTING) {
         complain(word, "there is no such option; --help tells which there are");
         return false;
     }
-    if (*mode != LISTING && *mode != asked) {
+    if (*mode != LISTING && *mode != wanted) {
         complain(word, "it does not go with the option before it; --help tells more");
         return false;
     }
-    *mode = asked;
+    *mode = wanted;
     return true;
 }
 

@@ -32,7 +32,7 @@ headOf t rows buckets bucket = firstAt (isIn t buckets bucket) rows 0
 abbrev pub linkOf : List ℕ → (rows buckets row : ℕ) → ℕ
 linkOf t rows buckets row = firstAt (isIn t buckets (bucketOf t buckets row)) (rows - (row + 1)) (row + 1)
 
--- the numbers that a rule gives to the places from 0 on, n of them
+-- the numbers that a rule gives to n places from `at` on
 unfoldable pub numbersFrom : (ℕ → ℕ) → (n at : ℕ) → List ℕ
 numbersFrom f zero at = []
 numbersFrom f (suc n) at = f at ∷ numbersFrom f n (at + 1)
