@@ -20,7 +20,7 @@ use Rattle.field.specs.declared.field.ParsedField.{ParsedField}
 use Rattle.field.specs.declared.field.FnPointerField.{FnPointerField}
 use Rattle.field.specs.declared.field.FieldWidth.{FieldWidth}
 
--- where the first byte c from `at` on stands (where there is none: the end of s, or `at` itself afterGroup the end), and whether there is one
+-- where the first byte c from `at` on stands (where there is none: the end of s, or `at` itself past the end), and whether there is one
 abbrev pub first : ℕ → List ℕ → ℕ → ℕ
 first c s at = at + before c (drop at s)
 
@@ -168,7 +168,7 @@ parsedAs (array n name rest ds) room =
     elim (ltb room (length ds)) [ true ↦ dimensionTableTooShort (length ds) | false ↦ scannedAs (array n name rest ds) ]
 parsedAs invalid room = scannedAs invalid
 
--- The numbers fill the table in order, and numbers afterGroup those are unchanged; a refusal writes nothing.
+-- The numbers fill the table in order, and numbers past those are unchanged; a refusal writes nothing.
 abbrev pub dimensionsOf : Said → List ℕ
 dimensionsOf (function name rest) = []
 dimensionsOf (plain n name rest) = []
