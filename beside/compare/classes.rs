@@ -101,7 +101,7 @@ fn index_minimums() -> Vec<(String, u64)> {
 
 /// Of searches through an index.
 fn indexed_minimums() -> Vec<(String, u64)> {
-    [("found", 500), ("missing", 500), ("null", 500), ("refused 2", 200)].iter().map(|(kind, least)| (format!("a {}", kind), *least)).collect()
+    [("found", 500), ("missing", 500), ("null", 200), ("refused 2", 50)].iter().map(|(kind, least)| (format!("a {}", kind), *least)).collect()
 }
 
 fn minimums() -> Vec<(String, u64)> {
