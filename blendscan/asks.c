@@ -10,6 +10,11 @@
  *   the numbers of these three. The answer is what building says (`built`, or `refused N` with what it carries), `heads` and `links` with all numbers that they hold
  *   afterwards, and what the address leads to: with heads and links as they came in, as the building left them, and by the plain search.
  *
+ * - `W`, a name: of 8 bytes each, little-endian, the size of a type and the bytes to a pointer, and then the name's bytes. The answer is what the name says (its kind, where
+ *   name and rest stand, indirection, length and number of dimensions) or `refused N`, and then `width N`, `refused N`, or `none` where the name is refused.
+ * - `w`, a declarator that somebody made, of 10 such numbers: kind, places of name and rest, indirection, length, number of dimensions, the size of a type and the
+ *   bytes to a pointer. The answer is its width.
+ *
  * An input that is none of these is answered `bad-input`. Exit 1: a batch that ends inside a record, or too little memory. */
 #include "libc.h"
 
@@ -162,6 +167,51 @@ static void index_of_numbers(const uint8_t *input, size_t length)
         put_pointer(plain.kind, plain.row);
 }
 
+/* ---- Names and widths */
+
+static void put_width(struct blend_value width)
+{
+    if (width.refusal != 0)
+        printf("refused %lu\n", width.refusal);
+    else
+        printf("width %lu\n", width.value);
+}
+
+static void width_of_name(const uint8_t *input, size_t length)
+{
+    static const char *const kinds[] = {"value", "array", "pointer", "pointer-array", "function"};
+    uint64_t *asked = numbers_at(&heads, input, 0, length < 16 ? 0 : 2);
+    struct blend_field f;
+
+    if (length < 16) {
+        printf("bad-input\n");
+        return;
+    }
+    f = blend_field(input + 16, length - 16, lent(&links, length), length);
+    if (f.refusal != 0) {
+        printf("refused %lu\n", f.refusal);
+        printf(blend_width(f, asked[0], asked[1]).refusal == 15 ? "none\n" : "a width of a refused name\n");
+        return;
+    }
+    printf("%s %lu %lu %lu %lu %lu %lu %lu\n", kinds[f.kind], f.name_at, f.name_length, f.rest_at, f.rest_length, f.indirection, f.length, f.dimensions);
+    put_width(blend_width(f, asked[0], asked[1]));
+}
+
+static void width_of_numbers(const uint8_t *input, size_t length)
+{
+    enum { KIND, NAME_AT, NAME_LENGTH, REST_AT, REST_LENGTH, INDIRECTION, LENGTH, DIMENSIONS, SIZE, POINTER_BYTES, NUMBERS };
+    const uint64_t *n = numbers_at(&heads, input, 0, length == 8 * NUMBERS ? NUMBERS : 0);
+    struct blend_field f;
+
+    if (length != 8 * NUMBERS || n[KIND] > 4) {
+        printf("bad-input\n");
+        return;
+    }
+    f = (struct blend_field){.kind = n[KIND], .name_at = n[NAME_AT], .name_length = n[NAME_LENGTH], .rest_at = n[REST_AT], .rest_length = n[REST_LENGTH],
+                             .indirection = n[INDIRECTION], .length = n[LENGTH], .dimensions = n[DIMENSIONS]};
+    put_width(blend_width(f, n[SIZE], n[POINTER_BYTES]));
+}
+
 /* ---- The batch */
 
 static void answer(uint8_t kind, const uint8_t *input, size_t length)
@@ -170,6 +220,10 @@ static void answer(uint8_t kind, const uint8_t *input, size_t length)
         address_in_file(input, length);
     else if (kind == 'I')
         index_of_numbers(input, length);
+    else if (kind == 'W')
+        width_of_name(input, length);
+    else if (kind == 'w')
+        width_of_numbers(input, length);
     else
         printf("bad-kind\n");
     printf(".\n");

@@ -11,8 +11,8 @@ enum { ALL_READ, REFUSED, NOT_HAD, BROKEN };
 
 enum mode { LISTING, SUMMARY, CATALOGUE, FINDING };
 
-/* The refusals of blend.h that ask for a larger table. */
-enum { ROWS_SHORT = 7, DIMENSIONS_SHORT = 11 };
+/* The refusals of blend.h that ask for a larger table, and that of a name after which something is left. */
+enum { ROWS_SHORT = 7, DIMENSIONS_SHORT = 11, NAME_NOT_FULLY_READ = 15 };
 
 /* How many rows are lent at first, at most. */
 enum { FIRST_ROWS = 1 << 16 };
@@ -269,6 +269,7 @@ static const char *refusal_words(uint64_t refusal)
     case 7: return "the row table is too short";
     case 9: return "a dimension is no number of at most 2^64-1";
     case 10: return "a product is over 2^64-1";
+    case 15: return "its name is not fully read, so it has no width";
     default: return "for a reason that is not known here";
     }
 }
@@ -539,24 +540,25 @@ static const uint64_t *name_row(const struct catalogue *c, uint64_t number)
     return number < c->counts.names ? c->names + BLEND_NAME * number : NULL;
 }
 
-/* After a space, the bytes that a name's or type's row tells of. Those that would not show, or would break the line up otherwise, are written \xHH, and an
- * empty text is "". Where there is no row the number shows after a question mark. */
-static void put_name(const struct catalogue *c, const uint64_t *row, uint64_t number)
+/* After a space, these bytes. Those that would not show, or would break the line up otherwise, are written \xHH, and an empty text is "". */
+static void put_text(const uint8_t *text, uint64_t length)
 {
-    const uint8_t *text;
-
-    if (row == NULL) {
-        print(" ?%lu", number);
-        return;
-    }
-    print(row[TEXT_LENGTH] == 0 ? " \"\"" : " ");
-    text = c->payload + row[TEXT_AT];
-    for (uint64_t i = 0; i < row[TEXT_LENGTH]; i++) {
+    print(length == 0 ? " \"\"" : " ");
+    for (uint64_t i = 0; i < length; i++) {
         if (text[i] > ' ' && text[i] < 0x7f && text[i] != '"' && text[i] != '\\' && (text[i] != '?' || i > 0))
             put_byte(text[i]);
         else
             print("\\x%02x", text[i]);
     }
+}
+
+/* The bytes that a name's or type's row tells of. Where there is no row the number shows after a question mark. */
+static void put_name(const struct catalogue *c, const uint64_t *row, uint64_t number)
+{
+    if (row == NULL)
+        print(" ?%lu", number);
+    else
+        put_text(c->payload + row[TEXT_AT], row[TEXT_LENGTH]);
 }
 
 /* After a space, the number, or a dash where it is not known. */
@@ -568,8 +570,8 @@ static void put_known(bool known, uint64_t number)
         print(" -");
 }
 
-/* How wide a field of that type and name is, or the refusal of its name or of its width. */
-static struct blend_value width_of(struct catalogue *c, const uint64_t *type, const uint64_t *name)
+/* What the name of a field says. */
+static struct blend_field told_by(struct catalogue *c, const uint64_t *name)
 {
     const uint8_t *text = c->payload + name[TEXT_AT];
     struct blend_field f = blend_field(text, name[TEXT_LENGTH], c->dimensions, c->dimensions_length);
@@ -579,9 +581,28 @@ static struct blend_value width_of(struct catalogue *c, const uint64_t *type, co
         c->dimensions_length = f.needed;
         f = blend_field(text, name[TEXT_LENGTH], c->dimensions, c->dimensions_length);
     }
-    if (f.refusal != 0)
-        return (struct blend_value){f.refusal, 0};
-    return blend_width(f.kind, f.length, type[TYPE_SIZE], c->pointer_bytes);
+    return f;
+}
+
+/* How wide a field of that type and name is, or the refusal of its name or of its width. */
+static struct blend_value width_of(struct catalogue *c, const uint64_t *type, const uint64_t *name)
+{
+    struct blend_field f = told_by(c, name);
+
+    return f.refusal != 0 ? (struct blend_value){f.refusal, 0} : blend_width(f, type[TYPE_SIZE], c->pointer_bytes);
+}
+
+/* Why a field of that name has no width; where something is left of the name, with that. */
+static void put_refusal(struct catalogue *c, uint64_t refusal, const uint64_t *name)
+{
+    print("problem: this field is refused %lu: %s", refusal, refusal_words(refusal));
+    if (refusal == NAME_NOT_FULLY_READ) {
+        struct blend_field f = told_by(c, name);
+
+        print("; left over is");
+        put_text(c->payload + name[TEXT_AT] + f.rest_at, f.rest_length);
+    }
+    print("\n");
 }
 
 static void put_field(struct catalogue *c, struct extent *e, const uint64_t *field)
@@ -602,9 +623,11 @@ static void put_field(struct catalogue *c, struct extent *e, const uint64_t *fie
     if (name == NULL)
         print("problem: the name of this field is past the list of names\n");
     if (width.refusal != 0)
-        print("problem: this field is refused %lu: %s\n", width.refusal, refusal_words(width.refusal));
+        put_refusal(c, width.refusal, name);
     if (e->known && known && !fits)
         print("problem: this field ends past 2^64-1\n");
+    if (e->known && !(known && fits))
+        print("problem: the later offsets of this struct are not known, nor how many bytes its fields take\n");
     e->marked = e->marked || !known || (e->known && !fits);
     e->known = e->known && known && fits;
     e->bytes += width.value;
@@ -672,8 +695,10 @@ static const char help[] =
     "                code, the end mark, what follows it\n"
     "  --catalogue   the types with their number and size, and the structs with their\n"
     "                number and size and, for each field, its offset, width, type and\n"
-    "                name. A line that begins with `problem:` tells what is wrong with\n"
-    "                what stands above it; the last line counts the structs with one\n"
+    "                name; a dash stands for what is not known, such as the width of a\n"
+    "                field whose name is not fully read and the offsets after it. A line\n"
+    "                that begins with `problem:` tells what is wrong with what stands\n"
+    "                above it; the last line counts the structs with one\n"
     "  --find ADDRESS\n"
     "                what a stored address leads to, decimal or after 0x: the line of the\n"
     "                first block of the scene's own things or DATA block that was saved at\n"

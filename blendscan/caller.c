@@ -243,6 +243,19 @@ static void tables_for_fields(uint64_t *checks, uint8_t *guard, uint8_t *lent)
     }
 }
 
+/* What blend_width has to answer of a declarator that is told by these numbers. */
+static bool as_wide(struct blend_value w, const struct blend_field *f, uint64_t size, uint64_t pointer_bytes)
+{
+    uint64_t unit = f->kind == 2 || f->kind == 3 || f->kind == 4 ? (pointer_bytes == 4 ? 4 : 8) : size;
+    uint64_t elements = f->kind == 1 || f->kind == 3 ? f->length : 1;
+
+    if (f->refusal != 0 || f->rest_length != 0)
+        return w.refusal == 15 && w.value == 0;
+    if (unit != 0 && elements > MOST / unit)
+        return w.refusal == 10 && w.value == 0;
+    return w.refusal == 0 && w.value == unit * elements;
+}
+
 /* Names of all sorts, with a table as long as they ask for. The answer tells parts of the name, and the dimensions have the length for their product. */
 static void many_fields(uint64_t *checks, uint8_t *guard, uint8_t *lent)
 {
@@ -270,13 +283,14 @@ static void many_fields(uint64_t *checks, uint8_t *guard, uint8_t *lent)
             product *= table[k];
         HOLDS(f.refusal != 0 || f.length == product);
         HOLDS(f.kind <= 4 && f.name_at + f.name_length <= length && f.rest_at + f.rest_length == (f.refusal == 0 ? length : 0));
+        HOLDS(as_wide(blend_width(f, state, i % 9), &f, state, i % 9));
     }
 }
 
 static void widths(uint64_t *checks)
 {
     static const uint64_t asked[][6] = {
-        /* kind, length, size, bytes to a pointer: refusal, value */
+        /* kind, length, size, bytes to a pointer: refusal, value, where nothing is left of the name */
         {0, 7, 12, 8, 0, 12},
         {5, 7, 12, 8, 0, 12},
         {MOST, 7, 12, 8, 0, 12},
@@ -299,12 +313,25 @@ static void widths(uint64_t *checks)
         {3, MOST / 8, 0, 8, 0, MOST - 7},
         {3, MOST / 8 + 1, 0, 8, 10, 0},
     };
+    static const uint64_t some[] = {1, 2, 9, 10, 11, 15, (uint64_t)1 << 32, MOST};
 
     for (size_t i = 0; i < sizeof asked / sizeof *asked; i++) {
         const uint64_t *a = asked[i];
-        struct blend_value w = blend_width(a[0], a[1], a[2], a[3]);
+        struct blend_field f = {.kind = a[0], .name_at = MOST, .rest_at = MOST, .indirection = MOST, .length = a[1], .dimensions = MOST};
+        struct blend_value w = blend_width(f, a[2], a[3]);
 
-        HOLDS(w.refusal == a[4] && w.value == a[5]);
+        HOLDS(w.refusal == a[4] && w.value == a[5] && as_wide(w, &f, a[2], a[3]));
+        for (size_t k = 0; k < sizeof some / sizeof *some; k++) {
+            f.rest_length = some[k];
+            f.rest_at = k % 2 == 0 ? 0 : MOST;
+            w = blend_width(f, a[2], a[3]);
+            HOLDS(w.refusal == 15 && w.value == 0);
+            f.rest_length = 0;
+            f.refusal = some[k];
+            w = blend_width(f, a[2], a[3]);
+            HOLDS(w.refusal == 15 && w.value == 0);
+            f.refusal = 0;
+        }
     }
 }
 

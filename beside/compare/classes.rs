@@ -20,6 +20,7 @@ impl Classes {
             b'P' => rust.iter().for_each(|line| self.value(line)),
             b'C' | b'c' => self.catalogue(input.kind, first, rust),
             b'I' => self.index(rust),
+            b'W' => self.name(rust),
             kind => self.count(kind, head(first)),
         }
     }
@@ -60,12 +61,20 @@ impl Classes {
         }
     }
 
+    /// What a name says, and what its width is.
+    fn name(&mut self, model: &[String]) {
+        self.count(b'W', head(model.first().map_or("", |line| &line[..])));
+        if let Some(line) = model.get(1) {
+            self.count(b'W', &format!("then {}", head(line)));
+        }
+    }
+
     pub fn print(&self) {
         println!("inputs by kind:");
         for (kind, count) in &self.kinds {
             println!("  {:9}  {}", count, kind);
         }
-        println!("inputs by kind and answer (of P, each line; of I, the first and the fourth):");
+        println!("inputs by kind and answer (of P and W, each line; of I, the first and the fourth):");
         for (class, count) in &self.answers {
             println!("  {:9}  {}", count, class);
         }
@@ -77,6 +86,7 @@ impl Classes {
         let least = match self.kinds.keys().next() {
             Some('a') => indexed_minimums(),
             Some('I') => index_minimums(),
+            Some('W') => width_minimums(),
             _ => minimums(),
         };
         let thin = least.into_iter().filter(|(class, least)| count(class) < *least);
@@ -97,6 +107,14 @@ fn head(line: &str) -> &str {
 fn index_minimums() -> Vec<(String, u64)> {
     let answers = ["built", "refused 13", "refused 14", "search null", "search found", "search missing", "search refused 13", "search refused 14"];
     answers.iter().map(|answer| (format!("I {}", answer), 500)).collect()
+}
+
+/// Of names and declarators with their widths.
+fn width_minimums() -> Vec<(String, u64)> {
+    let names = ["value", "array", "pointer", "pointer-array", "function", "refused 9", "refused 10", "then width", "then refused 10", "then refused 15", "then none"];
+    let records = ["width", "refused 10", "refused 15"];
+    let of = |kind: char, answers: &[&str]| -> Vec<(String, u64)> { answers.iter().map(|answer| (format!("{} {}", kind, answer), 500)).collect() };
+    [of('W', &names), of('w', &records)].concat()
 }
 
 /// Of searches through an index.

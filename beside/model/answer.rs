@@ -2,16 +2,23 @@
 
 use crate::batch::{read_input, Input, Record, INDEX_KIND};
 use crate::index::{build, index_lookup, plain_lookup, Finding, Refusal};
+use crate::widths::{name_lines, record_lines, NAME_KIND, RECORD_KIND};
 
 const BAD_INPUT: &str = "bad-input\n";
 
 /// All lines of the answer, without the line `.` that ends it. A record of a
-/// kind that is not `I` has no rule of its own and is answered `bad-input` too.
+/// kind that is none of these has no rule and is answered `bad-input` too.
 pub fn answer(record: &Record) -> String {
-    if record.kind != INDEX_KIND {
-        return BAD_INPUT.to_string();
+    match record.kind {
+        INDEX_KIND => index_lines(&record.input),
+        NAME_KIND => name_lines(&record.input),
+        RECORD_KIND => record_lines(&record.input),
+        _ => BAD_INPUT.to_string(),
     }
-    match read_input(&record.input) {
+}
+
+fn index_lines(input: &[u8]) -> String {
+    match read_input(input) {
         Some(input) => lines(&input).concat(),
         None => BAD_INPUT.to_string(),
     }

@@ -1,8 +1,10 @@
-//! A model of the index over the row table, written from documents 01 and 02
-//! alone, without the code. The library answers the same batches
-//! (blendscan/asks.c), and beside/run holds the two texts against each other.
+//! A model of the index over the row table, and of declarators and their
+//! widths, written from documents 01 and 02 alone, without the code. The library
+//! answers the same batches (blendscan/asks.c), and beside/run holds the two
+//! texts against each other.
 //!
-//!     model inputs SEED COUNT >batch      writes COUNT generated records
+//!     model indexes SEED COUNT >batch     writes COUNT generated records
+//!     model widths SEED COUNT >batch      the same, of names and declarators
 //!     model answer <batch >answers        answers each record
 
 mod answer;
@@ -14,19 +16,21 @@ mod row_inputs;
 mod table_inputs;
 #[cfg(test)]
 mod tests;
+mod width_inputs;
+#[cfg(test)]
+mod width_tests;
+mod widths;
 
 use std::io::{self, BufReader, BufWriter, Write};
 
-const USAGE: &str = "usage: model inputs SEED COUNT >batch | model answer <batch >answers";
+const USAGE: &str = "usage: model indexes|widths SEED COUNT >batch | model answer <batch >answers";
 
 fn main() {
     let words: Vec<String> = std::env::args().skip(1).collect();
     let words: Vec<&str> = words.iter().map(String::as_str).collect();
     let done = match words.as_slice() {
-        ["inputs", seed, count] => match (seed.parse(), count.parse()) {
-            (Ok(seed), Ok(count)) => write_inputs(seed, count),
-            _ => stop(USAGE),
-        },
+        ["indexes", seed, count] => write_inputs(seed, count, inputs::record),
+        ["widths", seed, count] => write_inputs(seed, count, width_inputs::record),
         ["answer"] => write_answers(),
         _ => stop(USAGE),
     };
@@ -40,12 +44,20 @@ fn stop(message: &str) -> ! {
     std::process::exit(2)
 }
 
-fn write_inputs(seed: u64, count: u64) -> io::Result<()> {
+fn write_inputs(
+    seed: &str,
+    count: &str,
+    record: fn(&mut random::Random) -> batch::Record,
+) -> io::Result<()> {
+    let (seed, count): (u64, u64) = match (seed.parse(), count.parse()) {
+        (Ok(seed), Ok(count)) => (seed, count),
+        _ => stop(USAGE),
+    };
     let stdout = io::stdout();
     let mut target = BufWriter::new(stdout.lock());
     let mut random = random::Random::new(seed);
     for _ in 0..count {
-        batch::write_record(&mut target, &inputs::record(&mut random))?;
+        batch::write_record(&mut target, &record(&mut random))?;
     }
     target.flush()
 }

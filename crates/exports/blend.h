@@ -24,6 +24,7 @@
  *   12  a value's slice is too short
  *   13  a row, or the bytes that it tells of, are not there
  *   14  no bucket, or a table of an index is too short; `buckets` and `rows` have the numbers that heads and links need
+ *   15  a field's name is not fully read, so that it has no width: something is left over after its declarator, or it was refused
  *
  * The earliest fault is reported; 7, 8 and 11 come only when all else reads (but 11 before 10).
  *
@@ -86,9 +87,10 @@ struct blend_catalogue {
 struct blend_catalogue blend_catalogue(const uint8_t *payload, size_t length, uint64_t order, uint64_t *names, size_t names_numbers, uint64_t *types,
                                        size_t types_numbers, uint64_t *structs, size_t structs_numbers, uint64_t *fields, size_t fields_numbers);
 
-/* What a field's name says: kind 0 a value, 1 an array, 2 a pointer, 3 an array of pointers, 4 a function pointer; where the bare name stands in it, and what was left
- * over after it (the rest, which ends where the name ends: what is no part of the declarator, mostly nothing); how many asterisks (0 for no pointer); the length of an array, which is the product of its dimensions (1 for no
- * array), and how many dimensions there are (0 for no array). The dimensions go into the table, in order. Refusals 9, 11, 10, in this order. */
+/* What a field's name says: kind 0 a value, 1 an array, 2 a pointer, 3 an array of pointers, 4 a function pointer; where the bare name stands in it, and what was
+ * left over after it (the rest, which ends where the name ends: what is no part of the declarator, mostly nothing); how many asterisks (0 for no pointer); the
+ * length of an array, which is the product of its dimensions (1 for no array), and how many dimensions there are (0 for no array). The dimensions go into the table,
+ * in order. Refusals 9, 11, 10, in this order. */
 struct blend_field {
     uint64_t refusal, needed, kind, name_at, name_length, rest_at, rest_length, indirection, length, dimensions;
 };
@@ -99,9 +101,11 @@ struct blend_value {
     uint64_t refusal, value;
 };
 
-/* How many bytes a field takes, by its kind and length as blend_field tells them, the size of its type, and the bytes to a pointer (4, or any other number for 8). The
- * length counts for arrays, the type's size for values and arrays of them. A number that is no kind counts as a value. Refusal 10. */
-struct blend_value blend_width(uint64_t kind, uint64_t length, uint64_t size, uint64_t pointer_bytes);
+/* How many bytes a field takes: what blend_field told of its name, whole, the size of its type, and the bytes to a pointer (4, or any other number for 8). The length
+ * counts for arrays, the type's size for values and arrays of them. A number that is no kind counts as a value. A name that is not fully read has no width: refusal 15
+ * where rest_length is not 0, whatever the kind, and where blend_field refused the name. Such a field leaves open where the later fields of its struct stand.
+ * Refusals 15, 10, in this order. */
+struct blend_value blend_width(struct blend_field field, uint64_t size, uint64_t pointer_bytes);
 
 /* Where a row's payload stands in the file, if the table has the row and the file that part; a payload of no bytes is there, also at the file's end. Refusal 13. */
 struct blend_view {

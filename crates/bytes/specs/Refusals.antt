@@ -53,6 +53,9 @@ notThere = refuses 13 []
 abbrev pub indexTooShort : ℕ → ℕ → Paper
 indexTooShort buckets rows = refuses 14 (buckets ∷ rows ∷ [])
 
+abbrev pub nameNotFullyRead : Paper
+nameNotFullyRead = refuses 15 []
+
 -- A fault of a reading tree on paper. A cut and a wrong mark are both malformed, and their places are left out: this loses what it is to lose,
 -- so only what is told of a public call goes by it.
 abbrev pub paperFault : Fault → Paper

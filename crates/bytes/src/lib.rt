@@ -91,6 +91,9 @@ impl Fault {
     /// Refusal 14, with the buckets and the rows needed: no bucket, or a table of the index is too short.
     pub const INDEX_TOO_SHORT: u64 = 14;
 
+    /// Refusal 15: something is left of a field's name after its declarator, so that it has no width.
+    pub const NAME_NOT_FULLY_READ: u64 = 15;
+
     /// The number of the refusal: a cut and a wrong mark are both malformed.
     pub fn refusal(self) -> u64
         ensures { λ r. ⌜ calls.«Fault::refusal» self r ⌝ }

@@ -10,5 +10,6 @@ pub mod Unaltered
 pub mod Exported
 pub mod Walked
 pub mod Sentences
+pub mod Widths
 pub mod Examples
 pub mod Wrong

@@ -1,4 +1,4 @@
--- Sentences of document 01 that no single contract says: each is a law of the contracts of the calls that it speaks of.
+-- Sentences of documents 01 and 02 that no single contract says: each is a law of the contracts of the calls that it speaks of.
 use Prim.Native.Nat.{ℕ, _<_}
 use mathlib.Core.List.{List, [], _∷_}
 use mathlib.Core.Path.{_≡_}
@@ -10,9 +10,17 @@ use Rattle.bytes.specs.declared.Endianness.the-variants.{Big}
 use Rattle.primitive.specs.declared.primitive.Name.{Name}
 use Rattle.primitive.specs.declared.primitive.ValueF32.{ValueF32}
 use Rattle.primitive.specs.declared.primitive.ValueF64.{ValueF64}
+use Rattle.bytes.specs.declared.PointerSize.{PointerSize}
 use Rattle.bytes.specs.Ascii.{ascii}
+use Rattle.bytes.specs.Refusals.{nameNotFullyRead}
 use Rattle.primitive.specs.Calls as primitive
 use Rattle.bytes.specs.Number.{Bytes, spelled}
+use Rattle.field.specs.declared.field.Declarator.{Declarator}
+use Rattle.field.specs.declared.field.FieldWidth.{FieldWidth}
+use Rattle.field.specs.declared.field.ParsedField.{ParsedField}
+use Rattle.field.specs.Declarators.{paperWidth}
+use Rattle.field.specs.Former.{formerWidthAs}
+use Rattle.field.specs.Calls as field
 use Rattle.block.specs.declared.Kind.{Kind}
 use Rattle.block.specs.declared.Row.{Row}
 use Rattle.blend.specs.declared.blend.BlendAnswer.{BlendAnswer}
@@ -30,6 +38,10 @@ use Rattle.index.specs.declared.index.Indexed.{Indexed}
 use Rattle.index.specs.declared.index.IndexPointer.{IndexPointer}
 use Rattle.index.specs.Index.{paperFound}
 use Rattle.index.specs.Calls as index
+use Rattle.exports.specs.declared.BlendField.{BlendField}
+use Rattle.exports.specs.declared.BlendValue.{BlendValue}
+use Rattle.exports.specs.Calls as exports
+use Rattle.exports.specs.Exports.{declaratorOf, sizeOf, valueOut}
 use Rattle.held.specs.declared.Walker.{Walker}
 use Rattle.held.specs.Calls as held
 use Rattle.held.specs.Walks.{HeldWalk}
@@ -62,6 +74,27 @@ IndexAsPlain =
     → (u firsts nexts : List ℕ) → rowsIn u rows ≡ rowsIn t rows → take buckets firsts ≡ take buckets heads′ → take rows nexts ≡ take rows links′
     → (address : ℕ) (r : IndexPointer) (q : Pointer) → index.«index::find» u rows buckets firsts nexts address r → runtime.«runtime::get_ptr» u rows address q
     → paperFound r ≡ paperPointer q
+
+-- A broken name (request 2): "A declarator with a non-empty rest has no width", whatever its kind, and is refused by 15; where the rest is empty the width is what it was
+-- before that request (`formerWidthAs`). Document 02's own example, "mat[4", is read, and has no width.
+pub record BrokenNames : Type 0 where
+  pub whole : (d : Declarator) (size : ℕ) (p : PointerSize) (r : FieldWidth) → field.«field::width» d size p r → d .rest .len ≡ 0 → paperWidth r ≡ formerWidthAs d size p
+  pub broken : (d : Declarator) (size : ℕ) (p : PointerSize) (r : FieldWidth) → field.«field::width» d size p r → (d .rest .len ≡ 0 → ⊥) → paperWidth r ≡ nameNotFullyRead
+  pub example : (t u : List ℕ) (q : ParsedField) → field.«field::parse_field» (ascii "mat[4") t q u
+      → (d : Declarator) × (q ≡ ParsedField.Is d) × ((size : ℕ) (p : PointerSize) (r : FieldWidth) → field.«field::width» d size p r → paperWidth r ≡ nameNotFullyRead)
+
+-- For other languages a width is asked of a struct of numbers, as `blend_field` tells a declarator. Of any struct without a refusal it is the width of the declarator that the
+-- numbers stand for; that one with a refusal has none, and 15 for it, is decided here. What `blend_field` tells of a name stands for what `parse_field` answers.
+abbrev pub StandsFor : BlendField → ParsedField → Type 0
+StandsFor f (ParsedField.Is d) = (f .refusal ≡ 0) × (declaratorOf f ≡ d)
+StandsFor f (ParsedField.Refused n) = (f .refusal ≡ n) × (n ≡ 0 → ⊥)
+StandsFor f (ParsedField.DimensionTableTooShort n) = (f .refusal ≡ 11) × (f .needed ≡ n)
+
+pub record WidthsExported : Type 0 where
+  pub told : (name t t′ u : List ℕ) (f : BlendField) (q : ParsedField) → exports.«blend_field» name t f t′ → field.«field::parse_field» name t q u → StandsFor f q
+  pub of-told : (f : BlendField) (size bytes : ℕ) (w : BlendValue) (r : FieldWidth)
+      → exports.«blend_width» f size bytes w → field.«field::width» (declaratorOf f) size (sizeOf bytes) r → f .refusal ≡ 0 → w ≡ valueOut (paperWidth r)
+  pub of-refused : (f : BlendField) (size bytes : ℕ) (w : BlendValue) → exports.«blend_width» f size bytes w → (f .refusal ≡ 0 → ⊥) → w ≡ valueOut nameNotFullyRead
 
 -- Primitive values: "Floats are compared by their bits." The bits of a float that is answered are those that were read, and so are a NaN's.
 pub record FloatBits : Type 0 where

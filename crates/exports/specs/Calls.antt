@@ -7,7 +7,7 @@ use lib.ListN.{length}
 use Rattle.primitive.specs.Primitive.{valueOf, unsigned}
 use Rattle.bytes.specs.Reader.{run}
 use Rattle.dna.specs.Catalogue.{catalogue}
-use Rattle.field.specs.Declarators.{declared, parsedAs, filledBy, widthAs}
+use Rattle.field.specs.Declarators.{declared, parsedAs, filledBy}
 use Rattle.header.specs.Header.{headerBytes, valued, headerAs}
 use Rattle.blend.specs.Chain.{fileBy, readAs, tableAfter}
 use Rattle.block.specs.Rows.{Column, perRow, cell}
@@ -23,7 +23,7 @@ use Rattle.exports.specs.declared.BlendPointer.{BlendPointer}
 use Rattle.exports.specs.declared.BlendIndex.{BlendIndex}
 use Rattle.exports.specs.declared.BlendFound.{BlendFound}
 use Rattle.exports.specs.declared.BlendValue.{BlendValue}
-use Rattle.exports.specs.Exports.{orderOf, headerOut, readOut, Catalogued, fieldOut, declaratorOf, sizeOf, viewOut, pointerOut, indexOut, foundOut, valueOut}
+use Rattle.exports.specs.Exports.{orderOf, headerOut, readOut, Catalogued, fieldOut, widthOf, sizeOf, viewOut, pointerOut, indexOut, foundOut, valueOut}
 
 abbrev pub «blend_header» : (file : List ℕ) → BlendHeader → Type 0
 «blend_header» file r = r ≡ headerOut (headerAs (valued (run headerBytes file 0)))
@@ -37,8 +37,8 @@ abbrev pub «blend_catalogue» : (payload : List ℕ) (order : ℕ) (names types
 abbrev pub «blend_field» : (name dimensions : List ℕ) → BlendField → List ℕ → Type 0
 «blend_field» name dimensions r dimensions′ = (r ≡ fieldOut (parsedAs (declared name) (length dimensions))) × (dimensions′ ≡ filledBy (declared name) dimensions)
 
-abbrev pub «blend_width» : (kind length size «pointer_bytes» : ℕ) → BlendValue → Type 0
-«blend_width» kind length size «pointer_bytes» r = r ≡ valueOut (widthAs (declaratorOf kind length) size (sizeOf «pointer_bytes»))
+abbrev pub «blend_width» : (field : BlendField) (size «pointer_bytes» : ℕ) → BlendValue → Type 0
+«blend_width» field size «pointer_bytes» r = r ≡ valueOut (widthOf field size (sizeOf «pointer_bytes»))
 
 abbrev pub «blend_view» : (file table : List ℕ) (row : ℕ) → BlendView → Type 0
 «blend_view» file table row r = r ≡ viewOut (viewAs file table row) (cell table row Column.payload) (cell table row Column.len)

@@ -13,8 +13,10 @@ use Rattle.bytes.specs.declared.PointerSize.the-variants.{Bits32, Bits64}
 use Rattle.bytes.specs.Paper.{Paper}
 use Rattle.bytes.specs.Paper.Paper.{accepts, integer, real, refuses}
 use Rattle.bytes.specs.Reader.{Outcome}
+use Rattle.bytes.specs.Refusals.{nameNotFullyRead}
 use Rattle.field.specs.declared.field.Declarator.{Declarator}
 use Rattle.field.specs.declared.field.FieldInfo.{FieldInfo}
+use Rattle.field.specs.Declarators.{widthAs}
 use Rattle.dna.specs.Catalogue.{Dna, rooms, readAs, namesTable, typesTable, structsTable, fieldsTable}
 use Rattle.exports.specs.declared.BlendHeader.{BlendHeader}
 use Rattle.exports.specs.declared.BlendRead.{BlendRead}
@@ -118,19 +120,28 @@ fieldOut (integer z) = fieldTold 0 0 0 [] 0 0 0
 fieldOut (real x) = fieldTold 0 0 0 [] 0 0 0
 fieldOut (refuses n vs) = fieldTold n (getD vs 0 0) 0 [] 0 0 0
 
--- A declarator by its kind's number and its length: what its width goes by. A number that is no kind stands for a value.
-abbrev pub infoOf : ℕ → ℕ → FieldInfo
-infoOf kind length =
+-- The way back, for a width: the declarator that the numbers stand for. A number that is no kind stands for a value, and numbers that the kind does not have for nothing.
+abbrev pub infoOf : (kind indirection length dimensions : ℕ) → FieldInfo
+infoOf kind indirection length dimensions =
     elim (eqb kind 1) [
-      | true ↦ FieldInfo.ValueArray length 0
+      | true ↦ FieldInfo.ValueArray length dimensions
       | false ↦ elim (eqb kind 2) [
-        | true ↦ FieldInfo.Pointer 1
-        | false ↦ elim (eqb kind 3) [ true ↦ FieldInfo.PointerArray 1 length 0 | false ↦ elim (eqb kind 4) [ true ↦ FieldInfo.FnPointer | false ↦ FieldInfo.Value ] ]
+        | true ↦ FieldInfo.Pointer indirection
+        | false ↦ elim (eqb kind 3) [ true ↦ FieldInfo.PointerArray indirection length dimensions | false ↦ elim (eqb kind 4) [ true ↦ FieldInfo.FnPointer | false ↦ FieldInfo.Value ] ]
       ]
     ]
 
-abbrev pub declaratorOf : ℕ → ℕ → Declarator
-declaratorOf kind length = record { name = record { at = 0; len = 0 }; rest = record { at = 0; len = 0 }; kind = infoOf kind length }
+abbrev pub declaratorOf : BlendField → Declarator
+declaratorOf f =
+    record {
+      name = record { at = f .«name_at»; len = f .«name_length» };
+      rest = record { at = f .«rest_at»; len = f .«rest_length» };
+      kind = infoOf (f .kind) (f .indirection) (f .length) (f .dimensions);
+    }
+
+-- The width of what `blend_field` told. Where it refused the name there is no declarator to ask, and neither document says what a width is then: 15 is decided here.
+abbrev pub widthOf : BlendField → ℕ → PointerSize → Paper
+widthOf f size p = elim (eqb (f .refusal) 0) [ true ↦ widthAs (declaratorOf f) size p | false ↦ nameNotFullyRead ]
 
 -- a pointer size by its bytes: 4, any other 8
 abbrev pub sizeOf : ℕ → PointerSize

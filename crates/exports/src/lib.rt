@@ -1,4 +1,4 @@
-// The library for other languages: numbers and slices in, a struct of numbers by value out. Each function calls one of the reader's and tells its answer
+// The library for other languages: numbers, slices and structs of numbers in, a struct of numbers by value out. Each function calls one of the reader's and tells its answer
 // in numbers, refusals by document 01's; the contract says so by the reader's own definitions. A slice crosses as a pointer and a length. blend.h says what each
 // function is for.
 use blend::blend::BlendAnswer;
@@ -421,32 +421,51 @@ pub extern "C" fn blend_field(name: &[u8], dimensions: &mut [u64]) -> BlendField
     }
 }
 
-// The kind that its number and its length stand for. A number that is no kind stands for a value.
-fn kind_of(kind: u64, length: u64) -> FieldInfo
-    ensures { λ r. ⌜ r ≡ rules.infoOf kind length ⌝ }
+// The kind that its number and its own numbers stand for. A number that is no kind stands for a value.
+fn kind_of(kind: u64, indirection: u64, length: u64, dimensions: u64) -> FieldInfo
+    ensures { λ r. ⌜ r ≡ rules.infoOf kind indirection length dimensions ⌝ }
 {
     if kind == 1 {
         return FieldInfo::ValueArray {
             len: length,
-            dimensions: 0,
+            dimensions: dimensions as usize,
         };
     }
     if kind == 2 {
         return FieldInfo::Pointer {
-            indirection_count: 1,
+            indirection_count: indirection as usize,
         };
     }
     if kind == 3 {
         return FieldInfo::PointerArray {
-            indirection_count: 1,
+            indirection_count: indirection as usize,
             len: length,
-            dimensions: 0,
+            dimensions: dimensions as usize,
         };
     }
     if kind == 4 {
         return FieldInfo::FnPointer;
     }
     FieldInfo::Value
+}
+
+// The declarator that the numbers of blend_field stand for.
+fn declarator_of(f: BlendField) -> Declarator
+    ensures { λ r. ⌜ r ≡ rules.declaratorOf f ⌝ }
+{
+    let name = Span {
+        at: f.name_at as usize,
+        len: f.name_length as usize,
+    };
+    let rest = Span {
+        at: f.rest_at as usize,
+        len: f.rest_length as usize,
+    };
+    Declarator {
+        name,
+        rest,
+        kind: kind_of(f.kind, f.indirection, f.length, f.dimensions),
+    }
 }
 
 // The pointer size that a number of bytes stands for: 4, any other 8.
@@ -460,18 +479,18 @@ fn size_of(bytes: u64) -> PointerSize
     }
 }
 
-/// How many bytes a field takes.
+/// How many bytes a field takes whose name blend_field told.
 #[no_mangle]
-pub extern "C" fn blend_width(kind: u64, length: u64, size: u64, pointer_bytes: u64) -> BlendValue
-    ensures { λ r. ⌜ calls.«blend_width» kind length size «pointer_bytes» r ⌝ }
+pub extern "C" fn blend_width(field: BlendField, size: u64, pointer_bytes: u64) -> BlendValue
+    ensures { λ r. ⌜ calls.«blend_width» field size «pointer_bytes» r ⌝ }
 {
-    let none = Span { at: 0, len: 0 };
-    let d = Declarator {
-        name: none,
-        rest: none,
-        kind: kind_of(kind, length),
-    };
-    match width(d, size, size_of(pointer_bytes)) {
+    if field.refusal != 0 {
+        return BlendValue {
+            refusal: Fault::NAME_NOT_FULLY_READ,
+            value: 0,
+        };
+    }
+    match width(declarator_of(field), size, size_of(pointer_bytes)) {
         FieldWidth::Is(n) => BlendValue {
             refusal: 0,
             value: n,

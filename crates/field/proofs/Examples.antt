@@ -1,9 +1,14 @@
 -- The rules at small inputs, computed.
+use Prim.Native.Nat.{ℕ}
 use mathlib.Core.List.{[], _∷_}
 use mathlib.Core.Path.{_≡_, refl}
 use Rattle.bytes.specs.Ascii.{ascii}
 use Rattle.bytes.specs.Paper.Paper.{accepts, refuses}
-use Rattle.field.specs.Declarators.{isFunction, taken, groups, spanned, digits, decimal, numbers, product, pointerOrValue, declared, scannedAs, parsedAs, filledBy}
+use Rattle.bytes.specs.declared.PointerSize.the-variants.{Bits32, Bits64}
+use Rattle.field.specs.declared.field.Declarator.{Declarator}
+use Rattle.field.specs.declared.field.FieldInfo.{FieldInfo}
+use Rattle.field.specs.Declarators.{isFunction, taken, groups, spanned, digits, decimal, numbers, product, pointerOrValue, declared, scannedAs, parsedAs, filledBy, paperDeclarator, widthAs}
+use Rattle.field.specs.Former.{formerWidthAs}
 
 -- an array with no complete bracket; no number; a sign; a pointer array
 arrays : (scannedAs (declared (ascii "a[3")) ≡ accepts 1 (0 ∷ 1 ∷ 1 ∷ 2 ∷ 1 ∷ 0 ∷ [])) × (scannedAs (declared (ascii "a[]")) ≡ refuses 9 [])
@@ -25,3 +30,24 @@ orders : (parsedAs (declared (ascii "a[x][1]")) 1 ≡ refuses 9 []) × (parsedAs
     × (filledBy (declared (ascii "a[18446744073709551615][2]")) (7 ∷ 7 ∷ 7 ∷ []) ≡ 7 ∷ 7 ∷ 7 ∷ [])
 unfolding declared pointerOrValue isFunction groups taken spanned numbers decimal digits product
 orders = (refl, refl, refl, refl, refl)
+
+-- "mat[4", as document 02's request 2 tells of it: it is read as before, counted as a single float, and has no width now
+unfoldable pub broken : Declarator
+broken = record { name = record { at = 0; len = 3 }; rest = record { at = 3; len = 2 }; kind = FieldInfo.ValueArray 1 0 }
+
+broken-name : (scannedAs (declared (ascii "mat[4")) ≡ paperDeclarator broken) × (formerWidthAs broken 4 Bits64 ≡ accepts 0 (4 ∷ [])) × (widthAs broken 4 Bits64 ≡ refuses 15 [])
+unfolding declared pointerOrValue isFunction groups taken spanned numbers decimal digits product broken
+broken-name = (refl, refl, refl)
+
+-- 15 before 10; a function pointer with something after it; and a whole name
+huge : Declarator
+huge = record { name = record { at = 1; len = 1 }; rest = record { at = 23; len = 1 }; kind = FieldInfo.PointerArray 1 4611686018427387904 1 }
+
+function : (rest : ℕ) → Declarator
+function rest = record { name = record { at = 2; len = 1 }; rest = record { at = 6; len = rest }; kind = FieldInfo.FnPointer }
+
+others-broken : (scannedAs (declared (ascii "*p[4611686018427387904][")) ≡ paperDeclarator huge)
+    × (formerWidthAs huge 4 Bits64 ≡ refuses 10 []) × (widthAs huge 4 Bits64 ≡ refuses 15 [])
+    × (scannedAs (declared (ascii "(*f)()[3]")) ≡ paperDeclarator (function 3)) × (widthAs (function 3) 4 Bits32 ≡ refuses 15 []) × (widthAs (function 0) 4 Bits32 ≡ accepts 0 (4 ∷ []))
+unfolding declared pointerOrValue isFunction groups taken spanned numbers decimal digits product huge function
+others-broken = (refl, refl, refl, refl, refl, refl)

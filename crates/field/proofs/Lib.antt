@@ -4,5 +4,7 @@ pub mod Decimals
 pub mod Dimensions
 pub mod Scans
 pub mod Told
+pub mod Widths
+pub mod Refusing
 pub mod Lossless
 pub mod Examples

@@ -10,7 +10,7 @@ use Rattle.bytes.specs.Ascii.{ascii, isDigit}
 use Rattle.bytes.specs.Paper.{Paper}
 use Rattle.bytes.specs.Paper.Paper.{accepts, refuses}
 use Rattle.bytes.specs.Reader.{before, stands}
-use Rattle.bytes.specs.Refusals.{malformed, invalidArraySize, productTooLarge, dimensionTableTooShort}
+use Rattle.bytes.specs.Refusals.{malformed, invalidArraySize, productTooLarge, dimensionTableTooShort, nameNotFullyRead}
 use Rattle.bytes.specs.Tables.{written}
 use Rattle.bytes.specs.declared.PointerSize.{PointerSize}
 use Rattle.bytes.specs.PointerSize.{pointerBytes}
@@ -119,7 +119,7 @@ pub data Said : Type 0 where
   function : (name rest : Span) → Said
   plain : (indirection : ℕ) (name rest : Span) → Said
   array : (indirection : ℕ) (name rest : Span) (dimensions : List ℕ) → Said
-  invalid : Said  -- a content that is no number
+  invalid : Said  -- a content that is no decimal of at most 2^64-1
 
 abbrev pub arrayOf : List ℕ → List (List ℕ) → Option (List ℕ) → Said
 arrayOf s gs none = invalid
@@ -223,9 +223,10 @@ lengthOf FieldInfo.FnPointer = 1
 abbrev pub widthTold : ℕ → Paper
 widthTold n = elim (leb n most) [ true ↦ accepts 0 (n ∷ []) | false ↦ productTooLarge ]
 
--- The rest is ignored.
+-- A declarator with a non-empty rest has no width (request 2 of document 02, in the place of document 01's "The rest is ignored"): 15, name not fully read, given
+-- before the width's own 10.
 abbrev pub widthAs : records.Declarator → ℕ → PointerSize → Paper
-widthAs d size p = widthTold (unitOf (d .kind) size p * lengthOf (d .kind))
+widthAs d size p = elim (eqb (d .rest .len) 0) [ true ↦ widthTold (unitOf (d .kind) size p * lengthOf (d .kind)) | false ↦ nameNotFullyRead ]
 
 abbrev pub paperWidth : FieldWidth → Paper
 paperWidth (FieldWidth.Is n) = accepts 0 (n ∷ [])

@@ -55,7 +55,7 @@ pub enum FnPointerField {
     Refused(u64),
 }
 
-/// What width answers: the number of bytes, or refusal 10.
+/// What width answers: the number of bytes, or refusal 15 or 10.
 pub enum FieldWidth {
     Is(u64),
     Refused(u64),
@@ -440,10 +440,13 @@ fn elements(kind: FieldInfo) -> u64
     }
 }
 
-/// How many bytes a field takes, with the size of its type and the pointer size of its file.
+/// How many bytes a field takes, with the size of its type and the pointer size of its file. A declarator with a rest has no width.
 pub fn width(d: Declarator, size: u64, pointer_size: PointerSize) -> FieldWidth
     ensures { λ r. ⌜ calls.«field::width» d size «pointer_size» r ⌝ }
 {
+    if d.rest.len != 0 {
+        return FieldWidth::Refused(Fault::NAME_NOT_FULLY_READ);
+    }
     let kind = d.kind;
     match times(Product::Is(unit(kind, size, pointer_size)), elements(kind)) {
         Product::Is(n) => FieldWidth::Is(n),

@@ -5,6 +5,7 @@ use Rattle.demands.proofs.Exported.{every-block-exported, no-other-object-expor
 use Rattle.demands.proofs.Walked.{every-block-walked, every-block-held, no-other-object-walked, no-other-object-held}
 use Rattle.demands.proofs.Indexes.{index-as-plain}
 use Rattle.demands.proofs.Sentences.{walks-as-read, held-walks-as-read, one-search, float-bits-read, code-bytes, names}
+use Rattle.demands.proofs.Widths.{broken-names, widths-exported}
 use Rattle.demands.proofs.Examples.{at-the-edges, scenes-are-read}
 use Rattle.promises.specs.Promises.{Promises}
 use Rattle.promises.proofs.Calls.{every}
@@ -25,6 +26,8 @@ promises =
       held-walks-as-read = held-walks-as-read;
       one-search = one-search;
       index-as-plain = index-as-plain;
+      broken-names = broken-names;
+      widths-exported = widths-exported;
       float-bits = float-bits-read;
       code-bytes = code-bytes;
       names = names;

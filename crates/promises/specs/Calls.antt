@@ -232,7 +232,7 @@ publicCall «exports::blend_catalogue» =
 publicCall «exports::blend_field» =
     lends exports.blend_field.ended exports.blend_field.Symbol.routine (λ κs (name, (dimensions, _)) r (_, (dimensions′, _)). «blend_field» (now name) (now dimensions) r (now dimensions′))
     (λ κs (_, (dimensions, _)) r (_, (dimensions′, _)). Nonzero (r .refusal) → dimensions′ ≡ now dimensions)
-publicCall «exports::blend_width» = call exports.blend_width.ended exports.blend_width.Symbol.routine (λ κs (kind, (length, (size, («pointer_bytes», _)))) r e. «blend_width» kind length size «pointer_bytes» r)
+publicCall «exports::blend_width» = call exports.blend_width.ended exports.blend_width.Symbol.routine (λ κs (field, (size, («pointer_bytes», _))) r e. «blend_width» field size «pointer_bytes» r)
 publicCall «exports::blend_view» = call exports.blend_view.ended exports.blend_view.Symbol.routine (λ κs (file, (table, (row, _))) r e. «blend_view» (now file) (now table) row r)
 publicCall «exports::blend_lookup» = call exports.blend_lookup.ended exports.blend_lookup.Symbol.routine (λ κs (table, (rows, (address, _))) r e. «blend_lookup» (now table) rows address r)
 publicCall «exports::blend_index» =

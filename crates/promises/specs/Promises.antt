@@ -2,7 +2,7 @@
 -- the check has checked.
 use Rattle.demands.specs.Cover.{EveryBlock, EveryBlockExported, EveryBlockWalked, EveryBlockHeld}
 use Rattle.demands.specs.Unaltered.{NoOtherObject, NoOtherObjectExported, NoOtherObjectWalked, NoOtherObjectHeld}
-use Rattle.demands.specs.Sentences.{WalksAsRead, HeldWalksAsRead, OneSearch, IndexAsPlain, FloatBits, CodeBytes, Names}
+use Rattle.demands.specs.Sentences.{WalksAsRead, HeldWalksAsRead, OneSearch, IndexAsPlain, BrokenNames, WidthsExported, FloatBits, CodeBytes, Names}
 use Rattle.demands.specs.Examples.{AtTheEdges, ScenesAreRead}
 use Rattle.promises.specs.Keeps.{Holds}
 use Rattle.promises.specs.Calls.{PublicCall, publicCall}
@@ -28,6 +28,9 @@ pub record Promises : Type 2 where
   pub one-search : OneSearch
   -- through an index that was built from these rows the search answers as the plain one does
   pub index-as-plain : IndexAsPlain
+  -- a name that is not fully read has no width, and a whole one the width that it had before that was asked; for other languages too
+  pub broken-names : BrokenNames
+  pub widths-exported : WidthsExported
   -- the bits of a float are those that were read, the bytes of a code those that it was read from, and the names are the Rust's
   pub float-bits : FloatBits
   pub code-bytes : CodeBytes

@@ -72,7 +72,7 @@ fn function(space: &mut [u8; SIZE], at: &mut usize, name: &[u8]) {
 fn width_words(space: &mut [u8; SIZE], at: &mut usize, answer: FieldWidth) {
     match answer {
         FieldWidth::Is(n) => number(space, at, b'#', n),
-        FieldWidth::Refused(_) => text(space, at, b"refused 10"),
+        FieldWidth::Refused(n) => line(space, at, b"refused #", &[n]),
     }
 }
 

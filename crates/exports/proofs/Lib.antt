@@ -1,0 +1,2 @@
+-- Laws about what the functions for other languages answer, for the proofs of the demands.
+pub mod Widths
