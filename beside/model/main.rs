@@ -1,5 +1,5 @@
 //! A model of the index over the row table, and of declarators and their
-//! widths, written from documents 01 and 02 alone, without the code. The library
+//! widths, written from documents 01 and 02 without the code. The library
 //! answers the same batches (blendscan/asks.c), and beside/run holds the two
 //! texts against each other.
 //!

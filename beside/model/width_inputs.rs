@@ -1,9 +1,9 @@
 //! Inputs for the model of names and widths, most of them close to an edge of
 //! a rule.
 //!
-//! Written from documents 01 and 02 (CR 2) alone. Lengths are chosen beside the
-//! sizes they will be multiplied by, so that many products are just small
-//! enough or just too large, with and without a rest.
+//! Written from documents 01 and 02 (CR 2), without the code. Lengths are chosen
+//! beside the sizes they will be multiplied by, so that many products are just
+//! small enough or just too large, with and without a rest.
 
 use crate::batch::Record;
 use crate::random::Random;

@@ -1,5 +1,5 @@
 //! Examples of document 01 and of CR 2 of document 02, and others worked out by
-//! hand from their rules. Written from the two documents alone.
+//! hand from their rules. Written without the code.
 
 use crate::widths::{name_lines, record_lines};
 

@@ -1,10 +1,13 @@
 //! What the bytes of a field's name say, and how wide the field is.
 //!
-//! Written from documents 01 ("Declarators") and 02 (CR 2) alone. The table of
-//! dimensions is taken to be long enough always, so refusal 11 never comes.
+//! Written from documents 01 ("Declarators") and 02 (CR 2), without the code. The
+//! table of dimensions is taken to be long enough always, so refusal 11 never
+//! comes.
 //!
 //! A record of kind `W` is a type's size, the bytes to a pointer and a name. A
-//! record of kind `w` is a declarator's record made by hand, any numbers in it.
+//! record of kind `w` is a declarator's record made by hand, any numbers in it; it
+//! counts as it stands, and its rest's length decides, which is part of this form
+//! and no sentence of the documents.
 
 pub const NAME_KIND: u8 = b'W';
 pub const RECORD_KIND: u8 = b'w';
