@@ -5,7 +5,7 @@ usage: choose.py EDGES BATCH RUST > stdin
 
 EDGES is crates/vectors/data/declarators, whose declarators are taken; BATCH a generated batch and RUST the oracle's answers to it. The
 examples of document 01 come first, then the declarators of EDGES, then of each class of answers a few inputs, evenly over the batch;
-the names of the kinds and headers by themselves come last.
+the names of the kinds, headers by themselves and function pointers by themselves come last.
 """
 import re
 import struct
@@ -46,7 +46,7 @@ def examples():
         address(n, hull)
     put(b'C', CATALOGUE)
     put(b'c', CATALOGUE)
-    for file in (b'', b'BLENDE', b'BLENDER', HEAD, HEAD + b'ENDB'):
+    for file in (b'', b'BLENDE', b'BLENDER', b'BLENDER-', b'BLENDER-x', b'BLENDER-v28', b'BLENDER17', b'BLENDER17x', HEAD, HEAD + b'EN', HEAD + b'ENDB'):
         put(b'F', file)
     put(b'F', b'BLENDER17-01v0501' + new_block(b'DNA1', CATALOGUE, 32) + b'ENDB')
     put(b'F', b'BLENDER-v2x0' + DNA + b'ENDB')
@@ -124,34 +124,55 @@ def form(data):
     return ('legacy', data[7:9]) if data[7:8] in (b'_', b'-') else ('new', data[9:10] + data[12:13])
 
 
+def head(line):
+    """An answer's first word; of a refusal, with its number; of a NomError, with nom's kinds from the inside out, and whether fewer bytes
+    than a mark's were left."""
+    words = line.split(' ')
+    if words[0] != 'refused':
+        return (words[0],)
+    if words[1] != 'nom':
+        return (line,)
+    kinds = words[2:3] + words[5::2]
+    short = [int(left) < (1 if 'Alt' in kinds else 4) for left in words[4:5]]
+    return ('refused nom', ' '.join(kinds), *short)
+
+
 def class_of(kind, data, lines):
-    first = lines[0].split(' ')
+    first = head(lines[0])
     if kind == b'F':
         if first[0] == 'file':
             several = sum(line.startswith('row 444e4131 ') for line in lines) > 1
-            return ('F', *first[1:4], several)
-        return ('F', lines[0], None if lines[0] in ('refused 1', 'refused 2') else form(data))
+            return ('F', *lines[0].split(' ')[1:4], several)
+        formless = first[0] == 'refused 1' or first[:2] in (('refused nom', 'Eof'), ('refused nom', 'Tag Alt'))
+        return ('F', *first) if formless else ('F', *first, form(data))
     if kind == b'D':
         zero = lines[0] == 'panic' and re.search(rb'\[\+?0+\]', data) is not None
-        return ('D', lines[0] if first[0] == 'refused' else first[0], zero)
+        return ('D', *first, zero)
     if kind in (b'C', b'c'):
         lossy = any(' lossy ' in line for line in lines)
-        return (kind.decode(), first[0], lossy)
+        return (kind.decode(), *first, lossy)
     if kind == b'P':
         return ('P', len(data), nan(data))
-    return ('A', lines[0] if first[0] == 'refused' else first[0])
+    if kind == b'f':
+        return ('f', *first, data.startswith(b'(*'))
+    return (kind.decode(), *first)
 
 
 # How many inputs of each class, by the class's beginning; the longest beginning counts.
 SHARES = {
     ('F',): 4,
-    ('F', 'refused 1'): 6, ('F', 'refused 2'): 24,
+    ('F', 'refused 1'): 6, ('F', 'refused nom'): 1, ('F', 'refused nom', 'Eof'): 2, ('F', 'refused nom', 'Tag Alt'): 2,
     ('F', 'refused 3'): 1, ('F', 'refused 4'): 1, ('F', 'refused 5'): 1, ('F', 'refused 6'): 1,
     ('D',): 10, ('D', 'panic', True): 4,
     ('C',): 8, ('c',): 8,
+    ('C', 'refused nom'): 2, ('c', 'refused nom'): 2, ('C', 'refused nom', 'Tag'): 5, ('c', 'refused nom', 'Tag'): 5,
     ('P',): 2,
+    ('f',): 3,
+    ('H',): 2,
+    # One comes last.
+    ('N',): 0,
     ('A',): 6,
-    ('A', 'refused 1'): 2, ('A', 'refused 2'): 2, ('A', 'refused 3'): 2, ('A', 'refused 4'): 2, ('A', 'refused 5'): 2, ('A', 'refused 6'): 2,
+    ('A', 'refused 1'): 2, ('A', 'refused nom'): 1, ('A', 'refused 3'): 2, ('A', 'refused 4'): 2, ('A', 'refused 5'): 2, ('A', 'refused 6'): 2,
 }
 
 
@@ -187,12 +208,18 @@ def headers():
         put(b'H', header)
 
 
+def functions():
+    for name in (b'', b'(', b'x', b'f)', b'(f', b'(*', b'(*f', b'(x', b'(*f)', b'(*f)x', b'(*f)(', b'(*f)(a', b'(*f)()', b'(*)()', b'(*f)(a)b', b'(*f)()[3]', b'*(*f)()'):
+        put(b'f', name)
+
+
 def main():
     edges, batch, rust = sys.argv[1:]
     examples()
     declarators(edges)
     generated(batch, rust)
     headers()
+    functions()
     for kind, data in out:
         sys.stdout.buffer.write(kind + struct.pack('<I', len(data)) + data)
 

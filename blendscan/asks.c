@@ -5,7 +5,7 @@
  * the line `.`. Numbers are decimal.
  *
  * - `a`, an address of 8 bytes, little-endian, and a whole file: `null`, `found ROW` or `missing`, looked up through an index of 1, 2, 7, as many as rows, and 65,537
- *   buckets, a line each; or `refused N`.
+ *   buckets, a line each; or `refused N`, with the offset of the fault after 16 and 17.
  * - `I`, an index over any numbers: of 8 bytes each, little-endian, the row count, the bucket count, an address, the lengths of a row table, heads and links, and then
  *   the numbers of these three. The answer is what building says (`built`, or `refused N` with what it carries), `heads` and `links` with all numbers that they hold
  *   afterwards, and what the address leads to: with heads and links as they came in, as the building left them, and by the plain search.
@@ -59,6 +59,14 @@ static void put_refusal(uint64_t refusal, uint64_t one, uint64_t other)
         printf("refused %lu\n", refusal);
 }
 
+static void put_fault(uint64_t refusal, uint64_t fault_at)
+{
+    if (refusal == 16 || refusal == 17)
+        printf("refused %lu %lu\n", refusal, fault_at);
+    else
+        printf("refused %lu\n", refusal);
+}
+
 static void put_pointer(uint64_t kind, uint64_t row)
 {
     if (kind == 1)
@@ -101,7 +109,7 @@ static void address_in_file(const uint8_t *input, size_t length)
     }
     r = blend_read(input + 8, length - 8, table, numbers);
     if (r.refusal != 0) {
-        printf("refused %lu\n", r.refusal);
+        put_fault(r.refusal, r.fault_at);
         return;
     }
     by_index(table, numbers, r.rows, 1, address.value);

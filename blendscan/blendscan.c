@@ -1,10 +1,12 @@
 /* blendscan: what a .blend file has in it.
  *
  * All reading is done by the proved library of blend.h. Every number that is printed was answered by one of its calls or stands in a table that a call filled, is made
- * of such numbers and of the file's length, or counts the lines; of the file itself bytes are shown, and none is interpreted here. */
+ * of such numbers and of the file's length, or counts the lines; of the file itself bytes are shown, and none is interpreted here. (words.c looks at bytes to say
+ * what was being read where the library refused a file, and is held to the place that the library told.) */
 #include "libc.h"
 
 #include "blend.h"
+#include "words.h"
 
 /* What the program ends with. Of several files the highest counts. */
 enum { ALL_READ, REFUSED, NOT_HAD, BROKEN };
@@ -70,15 +72,21 @@ static void put_file_name(FILE *to, const char *name)
     }
 }
 
-/* A line on standard error, after what was printed, so that the two stay in order where they are seen together. */
-__attribute__((format(printf, 2, 3))) static void complain(const char *name, const char *format, ...)
+/* The start of a line on standard error, after what was printed, so that the two stay in order where they are seen together. */
+static void begin_complaint(const char *name)
 {
-    va_list words;
-
     settle();
     fprintf(stderr, "blendscan: ");
     put_file_name(stderr, name);
     fprintf(stderr, ": ");
+}
+
+/* A whole line on standard error. */
+__attribute__((format(printf, 2, 3))) static void complain(const char *name, const char *format, ...)
+{
+    va_list words;
+
+    begin_complaint(name);
     va_start(words, format);
     vfprintf(stderr, format, words);
     va_end(words);
@@ -261,7 +269,6 @@ static const char *refusal_words(uint64_t refusal)
 {
     switch (refusal) {
     case 1: return "it does not begin with \"BLENDER\": it is compressed, or no .blend file";
-    case 2: return "malformed: it is cut short, or one of the marks that have to stand in it is wrong";
     case 3: return "a block's address is 0";
     case 4: return "the count of a principal block (an object, a lamp, a mesh, ..) is not 1";
     case 5: return "a block's code is none of those that are known (two letters and two zeros, REND, TEST, GLOB, DATA, DNA1)";
@@ -274,16 +281,29 @@ static const char *refusal_words(uint64_t refusal)
     }
 }
 
+static void complain_of_fault(const struct scene *s)
+{
+    begin_complaint(s->file.name);
+    fprintf(stderr, "refused %lu at ", s->read.refusal);
+    put_grouped(stderr, s->read.fault_at);
+    fprintf(stderr, ": ");
+    put_fault(stderr, s->file.bytes, s->file.length, s->read.refusal, s->read.fault_at);
+    fprintf(stderr, "\n");
+}
+
 static int tell_refusal(const struct scene *s)
 {
     uint64_t refusal = s->read.refusal;
+    bool placed = refusal == CUT_SHORT || refusal == WRONG_MARK;
 
     print("refused %lu", refusal);
-    if (refusal == ROWS_SHORT)
-        print(" %lu", s->read.needed);
+    if (placed || refusal == ROWS_SHORT)
+        print(" %lu", placed ? s->read.fault_at : s->read.needed);
     print("\n");
     if (s->file.length == 0)
         complain(s->file.name, "refused %lu: it is empty", refusal);
+    else if (placed)
+        complain_of_fault(s);
     else
         complain(s->file.name, "refused %lu: %s; it has %zu bytes", refusal, refusal_words(refusal), s->file.length);
     return REFUSED;
@@ -715,7 +735,10 @@ static const char help[] =
     "and offsets in bytes.\n"
     "\n"
     "A file that is refused gives the line `refused N`, and the reason on standard\n"
-    "error. Where there are several files, a line `file NAME` stands before each.\n"
+    "error. 16 is a file that is cut short, 17 one in which a mark is wrong: after these\n"
+    "stands the offset of what was being read, and the reason says what that was. An\n"
+    "upload that was broken off is 16, or 1 where hardly anything came. Where there are\n"
+    "several files, a line `file NAME` stands before each.\n"
     "\n"
     "A named file is not copied, so nobody may write to it meanwhile: where that is seen\n"
     "it is told. Standard input is copied: blendscan <FILE is for files that others use.\n"

@@ -57,6 +57,9 @@ static bool left(const uint64_t *table, size_t from, size_t numbers)
     return true;
 }
 
+/* The places of an answer's first numbers, as bits: of every answer the refusal, and then what 16 and 17 carry, of those that have it. */
+enum { REFUSAL = 1, FAULT_AT = 2 };
+
 /* Whether every number of an answer is 0 but those whose places the bits of `carried` name. */
 static bool zeros(const void *answer, size_t size, unsigned carried)
 {
@@ -79,15 +82,59 @@ static const char example[] =
     "DNA1\64\0\0\0\40\0\0\0\0\0\0\0\0\0\0\0\1\0\0\0" CATALOGUE "ENDB";
 enum { EXAMPLE = sizeof example - 1, PAYLOAD = sizeof catalogue - 1, ROWS = 2 * BLEND_ROW };
 
+/* Where each read of the example begins, one after another: in the header after "BLENDER", in two block headers each with its payload, and the end mark. */
+static const uint64_t example_reads[] = {7, 8, 9, 12, 16, 20, 28, 32, 36, 40, 44, 48, 56, 60, 64, 116, MOST};
+
+/* Likewise of its catalogue. */
+static const uint64_t catalogue_reads[] = {0, 4, 8, 12, 14, 16, 20, 24, 28, 32, 34, 36, 40, 44, 46, 48, 50, MOST};
+
+/* Where what is cut to that length fails to read: at the last read that begins in it. */
+static uint64_t cut_at(const uint64_t *reads, uint64_t length)
+{
+    while (reads[1] <= length)
+        reads++;
+    return *reads;
+}
+
+/* Whether an answer is refused by 16 or 17 at that place, and no number in it is but 0 that it does not carry. */
+#define REFUSED_AT(answer, number, place) ((answer).refusal == (number) && (answer).fault_at == (place) && zeros(&(answer), sizeof(answer), REFUSAL | FAULT_AT))
+
 static void headers(uint64_t *checks, uint8_t *guard)
 {
     for (size_t length = 0; length <= EXAMPLE; length++) {
         struct blend_header h = blend_header(bytes_at(guard, example, length), length);
 
-        HOLDS(h.refusal == (length < 7 ? 1 : length < 12 ? 2 : 0));
-        HOLDS(h.refusal != 0 ? zeros(&h, sizeof h, 1) : h.pointer_bytes == 8 && h.major == 2 && h.minor == 80 && h.length == 12);
+        if (length < 7)
+            HOLDS(h.refusal == 1 && zeros(&h, sizeof h, REFUSAL));
+        else if (length < 12)
+            HOLDS(REFUSED_AT(h, 16, cut_at(example_reads, length)));
+        else
+            HOLDS(zeros(&h, sizeof h, 0x3f << 2) && h.pointer_bytes == 8 && h.major == 2 && h.minor == 80 && h.length == 12);
         HOLDS(h.edition == 0 && h.order == 0);
     }
+}
+
+/* A New header cut anywhere, and with each of its two marks wrong. */
+static void new_headers(uint64_t *checks, uint8_t *guard)
+{
+    static const char new_header[] = "BLENDER17-01v0501";
+    static const uint64_t reads[] = {7, 9, 10, 12, 13, MOST};
+    struct blend_header h;
+
+    for (size_t length = 7; length < 17; length++) {
+        h = blend_header(bytes_at(guard, new_header, length), length);
+        HOLDS(REFUSED_AT(h, 16, cut_at(reads, length)));
+    }
+    for (size_t mark = 9; mark <= 12; mark += 3)
+        for (unsigned byte = 0; byte < 256; byte++) {
+            bytes_at(guard, new_header, 17);
+            guard[mark - 17] = (uint8_t)byte;
+            h = blend_header(guard - 17, 17);
+            if (mark == 9 ? byte == '_' || byte == '-' : byte == 'v' || byte == 'V')
+                HOLDS(h.refusal == 0 && h.fault_at == 0 && h.edition == 1 && h.major == 5 && h.minor == 1 && h.length == 17);
+            else
+                HOLDS(REFUSED_AT(h, 17, mark));
+        }
 }
 
 static void cut_files(uint64_t *checks, uint8_t *guard, uint8_t *lent)
@@ -96,8 +143,11 @@ static void cut_files(uint64_t *checks, uint8_t *guard, uint8_t *lent)
         uint64_t *table = table_at(lent, ROWS);
         struct blend_read r = blend_read(bytes_at(guard, example, length), length, table, ROWS);
 
-        HOLDS(r.refusal == (length < 7 ? 1 : 2));
-        HOLDS(zeros(&r, sizeof r, 1) && left(table, 0, ROWS));
+        if (length < 7)
+            HOLDS(r.refusal == 1 && zeros(&r, sizeof r, REFUSAL));
+        else
+            HOLDS(REFUSED_AT(r, 16, cut_at(example_reads, length)));
+        HOLDS(left(table, 0, ROWS));
     }
 }
 
@@ -110,9 +160,9 @@ static void tables_for_files(uint64_t *checks, uint8_t *guard, uint8_t *lent)
         struct blend_read r = blend_read(bytes_at(guard, example, EXAMPLE), EXAMPLE, table, numbers);
 
         if (numbers < ROWS) {
-            HOLDS(r.refusal == 7 && r.needed == 2 && zeros(&r, sizeof r, 3) && left(table, 0, numbers));
+            HOLDS(r.refusal == 7 && r.needed == 2 && zeros(&r, sizeof r, REFUSAL | 4) && left(table, 0, numbers));
         } else {
-            HOLDS(r.refusal == 0 && r.needed == 0 && r.edition == 0 && r.pointer_bytes == 8 && r.order == 0 && r.major == 2 && r.minor == 80);
+            HOLDS(r.refusal == 0 && r.fault_at == 0 && r.needed == 0 && r.edition == 0 && r.pointer_bytes == 8 && r.order == 0 && r.major == 2 && r.minor == 80);
             HOLDS(r.rows == 2 && r.end == EXAMPLE && r.names == 1 && r.types == 1 && r.structs == 1 && r.fields == 1);
             HOLDS(memcmp(table, rows, sizeof rows) == 0 && left(table, ROWS, numbers));
         }
@@ -130,13 +180,171 @@ static void damaged_files(uint64_t *checks, uint8_t *guard, uint8_t *lent)
             bytes_at(guard, example, EXAMPLE);
             guard[at - EXAMPLE] = (uint8_t)byte;
             r = blend_read(guard - EXAMPLE, EXAMPLE, table, NUMBERS);
-            HOLDS(r.refusal <= 6);
-            if (r.refusal != 0)
-                HOLDS(zeros(&r, sizeof r, 1) && left(table, 0, NUMBERS));
-            else
+            if (r.refusal == 0) {
+                HOLDS(zeros(&r, sizeof r, ~(unsigned)(FAULT_AT | 4)));
                 HOLDS(r.rows >= 1 && r.rows <= 2 && r.end <= EXAMPLE && left(table, r.rows * BLEND_ROW, NUMBERS));
+                continue;
+            }
+            HOLDS(left(table, 0, NUMBERS));
+            if (r.refusal == 16 || r.refusal == 17)
+                HOLDS(REFUSED_AT(r, r.refusal, r.fault_at) && r.fault_at >= 7 && r.fault_at <= EXAMPLE);
+            else
+                HOLDS((r.refusal == 1 || (r.refusal >= 3 && r.refusal <= 6)) && zeros(&r, sizeof r, REFUSAL));
         }
     }
+}
+
+/* The order mark and those of the catalogue, with each byte of them made every other one. */
+static void wrong_marks(uint64_t *checks, uint8_t *guard, uint8_t *lent)
+{
+    static const struct {
+        size_t at, length;
+    } marks[] = {{8, 1}, {64, 4}, {68, 4}, {80, 4}, {92, 4}, {100, 4}};
+
+    for (size_t i = 0; i < sizeof marks / sizeof *marks; i++)
+        for (size_t at = marks[i].at; at < marks[i].at + marks[i].length; at++)
+            for (unsigned byte = 0; byte < 256; byte++) {
+                uint64_t *table = table_at(lent, ROWS);
+                struct blend_read r;
+
+                if (byte == (uint8_t)example[at] || (at == 8 && byte == 'V'))
+                    continue;
+                bytes_at(guard, example, EXAMPLE);
+                guard[at - EXAMPLE] = (uint8_t)byte;
+                r = blend_read(guard - EXAMPLE, EXAMPLE, table, ROWS);
+                HOLDS(REFUSED_AT(r, 17, marks[i].at) && left(table, 0, ROWS));
+            }
+}
+
+/* ---- A walk */
+
+/* Where a step's answer has what the row holds, and the bits of its numbers: the row; kind and end at the end mark; the place that it hands back. */
+enum { ROW_AT = 3, ROW = 0x7f << ROW_AT, END = 1 << 2 | 1 << 10, NEXT = 3 << 11 };
+
+static bool same_step(struct blend_step one, struct blend_step other)
+{
+    return memcmp(&one, &other, sizeof one) == 0;
+}
+
+/* A block from that place on, and the place after its payload. */
+static bool block_step(const struct blend_step *s, uint64_t at, uint64_t length)
+{
+    return zeros(s, sizeof *s, ROW | NEXT) && s->next_at == s->payload + s->length && s->next_at > at && s->next_at <= length
+        && s->next_dna == (s->code == 0x444e4131);
+}
+
+/* The end, or a refusal, and the place that went in. */
+static bool ended_step(const struct blend_step *s, uint64_t end, uint64_t at)
+{
+    return s->kind == 1 && s->end == end && s->next_at == at && s->next_dna == 1 && zeros(s, sizeof *s, END | NEXT);
+}
+
+static bool refused_step(const struct blend_step *s, uint64_t refusal, uint64_t at, uint64_t dna)
+{
+    bool placed = refusal == 16 || refusal == 17;
+
+    return s->refusal == refusal && s->next_at == at && s->next_dna == dna && zeros(s, sizeof *s, REFUSAL | (placed ? FAULT_AT : 0) | NEXT);
+}
+
+static bool holds_row(const struct blend_step *s, const uint64_t *row)
+{
+    return memcmp((const uint64_t *)s + ROW_AT, row, BLEND_ROW * sizeof *row) == 0;
+}
+
+/* What a walk over a file comes to, past these rows, where there is a table of them. Each step is asked twice. */
+static struct blend_step walk(uint64_t *checks, const uint8_t *file, size_t length, const uint64_t *table)
+{
+    struct blend_step s = {.next_at = 0};
+
+    for (;;) {
+        uint64_t at = s.next_at, dna = s.next_dna;
+
+        s = blend_step(file, length, at, dna);
+        HOLDS(same_step(s, blend_step(file, length, at, dna)));
+        if (s.refusal != 0 || s.kind != 0) {
+            HOLDS(s.next_at == at && s.next_dna == dna);
+            return s;
+        }
+        HOLDS(block_step(&s, at, length));
+        if (table != NULL) {
+            HOLDS(holds_row(&s, table));
+            table += BLEND_ROW;
+        }
+    }
+}
+
+/* The walk over a file gives the rows that reading it gives, and comes to the same end, or the same refusal. */
+static void walk_as_read(uint64_t *checks, const uint8_t *file, size_t length, uint8_t *lent)
+{
+    uint64_t *table = table_at(lent, NUMBERS);
+    struct blend_read r = blend_read(file, length, table, NUMBERS);
+    struct blend_step s = walk(checks, file, length, r.refusal == 0 ? table : NULL);
+
+    HOLDS(s.refusal == r.refusal && s.fault_at == r.fault_at);
+    if (r.refusal == 0)
+        HOLDS(ended_step(&s, r.end, table[BLEND_ROW * r.rows - 2] + table[BLEND_ROW * r.rows - 1]));
+    else
+        HOLDS(refused_step(&s, r.refusal, s.next_at, s.next_dna));
+}
+
+static void walks(uint64_t *checks, uint8_t *guard, uint8_t *lent)
+{
+    for (size_t length = 0; length <= EXAMPLE; length++)
+        walk_as_read(checks, bytes_at(guard, example, length), length, lent);
+    for (size_t at = 0; at < EXAMPLE; at++)
+        for (unsigned byte = 0; byte < 256; byte++) {
+            bytes_at(guard, example, EXAMPLE);
+            guard[at - EXAMPLE] = (uint8_t)byte;
+            walk_as_read(checks, guard - EXAMPLE, EXAMPLE, lent);
+        }
+}
+
+/* The block before a place is a DNA1 for any number but 0, and where it is none an end mark is refused. */
+static void places(uint64_t *checks, uint8_t *guard)
+{
+    static const uint64_t past[] = {EXAMPLE + 1, EXAMPLE + 4, (uint64_t)1 << 32, MOST / 2 + 1, MOST - 4, MOST};
+    static const uint64_t dnas[] = {1, 2, 256, (uint64_t)1 << 32, MOST};
+    const uint8_t *file = bytes_at(guard, example, EXAMPLE);
+    struct blend_step s = blend_step(file, EXAMPLE, 116, 0);
+
+    HOLDS(refused_step(&s, 6, 116, 0));
+    for (size_t i = 0; i < sizeof dnas / sizeof *dnas; i++) {
+        s = blend_step(file, EXAMPLE, 116, dnas[i]);
+        HOLDS(ended_step(&s, EXAMPLE, 116));
+        s = blend_step(file, EXAMPLE, 40, dnas[i]);
+        HOLDS(same_step(s, blend_step(file, EXAMPLE, 40, 0)) && s.code == 0x444e4131 && s.next_at == 116 && s.next_dna == 1);
+        s = blend_step(file, EXAMPLE, EXAMPLE, dnas[i]);
+        HOLDS(refused_step(&s, 16, EXAMPLE, 1) && s.fault_at == EXAMPLE);
+    }
+    for (size_t i = 0; i < sizeof past / sizeof *past; i++) {
+        s = blend_step(file, EXAMPLE, past[i], 0);
+        HOLDS(refused_step(&s, 13, past[i], 0));
+        s = blend_step(file, EXAMPLE, past[i], MOST);
+        HOLDS(refused_step(&s, 13, past[i], 1));
+        s = blend_step(guard, 0, past[i], 0);
+        HOLDS(refused_step(&s, 13, past[i], 0));
+    }
+    s = blend_step(guard, 0, 0, MOST);
+    HOLDS(refused_step(&s, 1, 0, 1));
+}
+
+/* From any place in the file, also one where no block begins. */
+static void places_between(uint64_t *checks, uint8_t *guard)
+{
+    const uint8_t *file = bytes_at(guard, example, EXAMPLE);
+
+    for (size_t at = 0; at <= EXAMPLE; at++)
+        for (uint64_t dna = 0; dna < 2; dna++) {
+            struct blend_step s = blend_step(file, EXAMPLE, at, dna);
+
+            HOLDS(same_step(s, blend_step(file, EXAMPLE, at, dna)));
+            if (s.refusal != 0)
+                HOLDS(refused_step(&s, s.refusal, at, dna) && s.fault_at <= EXAMPLE);
+            else if (s.kind == 1)
+                HOLDS(ended_step(&s, at + BLEND_END_MARK, at) && dna == 1);
+            else
+                HOLDS(block_step(&s, at, EXAMPLE));
+        }
 }
 
 /* ---- Catalogues */
@@ -147,8 +355,25 @@ static void cut_catalogues(uint64_t *checks, uint8_t *guard, uint8_t *lent)
         uint64_t *t = table_at(lent, 10);
         struct blend_catalogue c = blend_catalogue(bytes_at(guard, catalogue, length), length, 0, t, 2, t + 2, 3, t + 5, 3, t + 8, 2);
 
-        HOLDS(c.refusal == 2 && zeros(&c, sizeof c, 1) && left(t, 0, 10));
+        HOLDS(REFUSED_AT(c, 16, cut_at(catalogue_reads, length)) && left(t, 0, 10));
     }
+}
+
+/* Where a mark is both cut and wrong it is cut. */
+static void marks_of_catalogues(uint64_t *checks, uint8_t *guard, uint8_t *lent)
+{
+    static const uint64_t marks[] = {0, 4, 16, 28, 36};
+
+    for (size_t i = 0; i < sizeof marks / sizeof *marks; i++)
+        for (size_t length = marks[i] + 1; length <= PAYLOAD; length++) {
+            uint64_t *t = table_at(lent, 10);
+            struct blend_catalogue c;
+
+            bytes_at(guard, catalogue, length);
+            guard[marks[i] - length] ^= 1;
+            c = blend_catalogue(guard - length, length, 0, t, 2, t + 2, 3, t + 5, 3, t + 8, 2);
+            HOLDS(REFUSED_AT(c, length < marks[i] + 4 ? 16 : 17, marks[i]) && left(t, 0, 10));
+        }
 }
 
 /* Tables of 0 to 3 numbers each, one behind another: a table is too short below 2, 3, 3 and 2. */
@@ -164,16 +389,16 @@ static void tables_for_catalogues(uint64_t *checks, uint8_t *guard, uint8_t *len
 
         HOLDS(c.table == which && c.refusal == (which == 0 ? 0 : 8));
         if (which != 0) {
-            HOLDS(c.needed == 1 && zeros(&c, sizeof c, 7) && left(names, 0, n + m + s + f));
+            HOLDS(c.needed == 1 && zeros(&c, sizeof c, REFUSAL | 4 | 8) && left(names, 0, n + m + s + f));
             continue;
         }
-        HOLDS(c.names == 1 && c.types == 1 && c.structs == 1 && c.fields == 1 && c.needed == 0);
+        HOLDS(c.names == 1 && c.types == 1 && c.structs == 1 && c.fields == 1 && c.needed == 0 && c.fault_at == 0);
         HOLDS(names[0] == 12 && names[1] == 1 && left(names, 2, n) && fields[0] == 0 && fields[1] == 0 && left(fields, 2, f));
         HOLDS(types[0] == 24 && types[1] == 3 && types[2] == 4 && structs[0] == 0 && structs[1] == 0 && structs[2] == 1);
     }
 }
 
-/* Any number but 0 is the big order: in it the first count is 2^24, and there are not so many names. */
+/* Any number but 0 is the big order: in it the first count is 2^24, and there are not so many names; the last byte is a zero, so the next name is cut at the end. */
 static void orders_of_catalogues(uint64_t *checks, uint8_t *guard, uint8_t *lent)
 {
     static const uint64_t orders[] = {1, 2, (uint64_t)1 << 32, MOST};
@@ -183,7 +408,7 @@ static void orders_of_catalogues(uint64_t *checks, uint8_t *guard, uint8_t *lent
         uint64_t *t = table_at(lent, 10);
         struct blend_catalogue c = blend_catalogue(payload, PAYLOAD, orders[i], t, 2, t + 2, 3, t + 5, 3, t + 8, 2);
 
-        HOLDS(c.refusal == 2 && zeros(&c, sizeof c, 1) && left(t, 0, 10));
+        HOLDS(REFUSED_AT(c, 16, PAYLOAD) && left(t, 0, 10));
     }
 }
 
@@ -554,10 +779,16 @@ int main(void)
     uint64_t count = 0, *checks = &count;
 
     headers(checks, bytes);
+    new_headers(checks, bytes);
     cut_files(checks, bytes, lent);
     tables_for_files(checks, bytes, lent);
     damaged_files(checks, bytes, lent);
+    wrong_marks(checks, bytes, lent);
+    walks(checks, bytes, lent);
+    places(checks, bytes);
+    places_between(checks, bytes);
     cut_catalogues(checks, bytes, lent);
+    marks_of_catalogues(checks, bytes, lent);
     tables_for_catalogues(checks, bytes, lent);
     orders_of_catalogues(checks, bytes, lent);
     fields(checks, bytes, lent);

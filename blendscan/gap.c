@@ -1,5 +1,5 @@
 /* gap: blendscan over a library that is wrong in one number, which the variable GAP names. The test runs its summary, which must not say that every byte is accounted
- * for. */
+ * for; and files that are refused, of which it must not say what was being read where the place is wrong. */
 #include "libc.h"
 
 #include "blend.h"
@@ -15,8 +15,11 @@ static struct blend_read wrong_read(const uint8_t *file, size_t length, uint64_t
 {
     struct blend_read r = blend_read(file, length, table, numbers);
 
-    if (r.refusal != 0)
+    if (r.refusal != 0) {
+        if (gap_is("fault"))
+            r.fault_at++;
         return r;
+    }
     if (gap_is("first payload"))
         table[6]--;
     if (gap_is("last payload"))

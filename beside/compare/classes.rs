@@ -1,6 +1,8 @@
-//! Counting inputs by kind and by the answer that ours is held against, and the least that a full run must have of each class.
+//! Counting inputs by kind and by the answer that ours is held against, and the least that a full run must have of each class. A
+//! `NomError` of the Rust is counted as what it is here, 16 or 17.
 
 use crate::records::Input;
+use crate::rules;
 use std::collections::BTreeMap;
 
 #[derive(Default)]
@@ -12,15 +14,16 @@ pub struct Classes {
 const PRIMITIVES: [&str; 11] = ["u8", "char", "i8", "u16", "i16", "u32", "i32", "u64", "i64", "f32", "f64"];
 
 impl Classes {
-    pub fn add(&mut self, input: &Input, rust: &[String]) {
+    pub fn add(&mut self, input: &Input, rust: &[String], other: &[String]) {
         *self.kinds.entry(input.kind as char).or_insert(0) += 1;
-        let first = rust.first().map_or("", |line| &line[..]);
+        let answer = if rules::names_nom(rust) { other } else { rust };
+        let first = answer.first().map_or("", |line| &line[..]);
         match input.kind {
-            b'F' => self.file(first, rust),
-            b'P' => rust.iter().for_each(|line| self.value(line)),
-            b'C' | b'c' => self.catalogue(input.kind, first, rust),
-            b'I' => self.index(rust),
-            b'W' => self.name(rust),
+            b'F' => self.file(first, answer),
+            b'P' => answer.iter().for_each(|line| self.value(line)),
+            b'C' | b'c' => self.catalogue(input.kind, first, answer),
+            b'I' => self.index(answer),
+            b'W' => self.name(answer),
             kind => self.count(kind, head(first)),
         }
     }
@@ -32,7 +35,7 @@ impl Classes {
     fn file(&mut self, first: &str, rust: &[String]) {
         let words: Vec<&str> = first.split(' ').collect();
         if words[0] != "file" {
-            return self.count(b'F', first);
+            return self.count(b'F', head(first));
         }
         self.count(b'F', &words[..4].join(" "));
         if rust.iter().filter(|line| line.starts_with("row 444e4131 ")).count() > 1 {
@@ -80,14 +83,16 @@ impl Classes {
         }
     }
 
-    /// The classes with fewer inputs than a full run must have.
-    pub fn thin(&self) -> Vec<String> {
-        let count = |class: &str| *self.answers.get(class).unwrap_or(&0);
-        let least = match self.kinds.keys().next() {
-            Some('a') => indexed_minimums(),
-            Some('I') => index_minimums(),
-            Some('W') => width_minimums(),
-            _ => minimums(),
+    /// The classes, or sums of classes, with fewer inputs than a full run must have.
+    pub fn thin(&self, model: bool) -> Vec<String> {
+        let one = |class: &str| *self.answers.get(class).unwrap_or(&0);
+        let count = |classes: &str| -> u64 { classes.split(" + ").map(one).sum() };
+        let least = match (model, self.kinds.keys().next()) {
+            (true, Some('I')) => index_minimums(),
+            (true, Some('W')) => width_minimums(),
+            (true, _) => fault_minimums(),
+            (false, Some('a')) => indexed_minimums(),
+            (false, _) => minimums(),
         };
         let thin = least.into_iter().filter(|(class, least)| count(class) < *least);
         thin.map(|(class, least)| format!("{}: {} of at least {}", class, count(&class), least)).collect()
@@ -117,28 +122,47 @@ fn width_minimums() -> Vec<(String, u64)> {
     [of('W', &names), of('w', &records)].concat()
 }
 
-/// Of searches through an index.
-fn indexed_minimums() -> Vec<(String, u64)> {
-    [("found", 500), ("missing", 500), ("null", 200), ("refused 2", 50)].iter().map(|(kind, least)| (format!("a {}", kind), *least)).collect()
+/// Of files, headers, catalogues and function pointers, cut or with a wrong mark.
+fn fault_minimums() -> Vec<(String, u64)> {
+    let mut classes = vec![forms().join(" + ")];
+    classes.extend(["H header", "C dna", "c dna", "f fn"].iter().map(|class| class.to_string()));
+    for kind in ["F", "H", "C", "c", "f"].iter() {
+        classes.push(format!("{} refused 16", kind));
+        classes.push(format!("{} refused 17", kind));
+    }
+    classes.into_iter().map(|class| (class, 500)).collect()
 }
 
-fn minimums() -> Vec<(String, u64)> {
+/// Of searches through an index.
+fn indexed_minimums() -> Vec<(String, u64)> {
+    let classes = [("a found", 500), ("a missing", 500), ("a null", 200), ("a refused 16 + a refused 17", 50)];
+    classes.iter().map(|(class, least)| (class.to_string(), *least)).collect()
+}
+
+/// The classes of files that are read.
+fn forms() -> Vec<String> {
     let mut list = Vec::new();
-    let mut least = |count: u64, class: String| list.push((class, count));
     for edition in ["legacy", "new"].iter() {
         for bits in ["32", "64"].iter() {
             for order in ["little", "big"].iter() {
-                least(1000, format!("F file {} {} {}", edition, bits, order));
+                list.push(format!("F file {} {} {}", edition, bits, order));
             }
         }
     }
-    for number in 2..7 {
+    list
+}
+
+fn minimums() -> Vec<(String, u64)> {
+    let mut list: Vec<(String, u64)> = forms().into_iter().map(|form| (form, 1000)).collect();
+    let mut least = |count: u64, class: String| list.push((class, count));
+    for number in [3, 4, 5, 6, 16, 17].iter() {
         least(1000, format!("F refused {}", number));
     }
     least(100, "F refused 1".to_string());
     least(1000, "H header".to_string());
     least(100, "H refused 1".to_string());
-    least(1000, "H refused 2".to_string());
+    least(500, "H refused 16".to_string());
+    least(500, "H refused 17".to_string());
     least(1, "N u8".to_string());
     least(1000, "F with several DNA1".to_string());
     for kind in ["value", "array", "pointer", "pointer-array", "fn", "refused 9", "panic", "not-utf8"].iter() {
@@ -146,8 +170,12 @@ fn minimums() -> Vec<(String, u64)> {
     }
     for kind in ["C", "c"].iter() {
         least(1000, format!("{} dna", kind));
-        least(1000, format!("{} refused 2", kind));
+        least(1000, format!("{} refused 16", kind));
+        least(1000, format!("{} refused 17", kind));
         least(200, format!("{} dna with lossy names", kind));
+    }
+    for kind in ["fn", "refused 16", "refused 17"].iter() {
+        least(1000, format!("f {}", kind));
     }
     for kind in PRIMITIVES.iter() {
         for order in ["little", "big"].iter() {
@@ -158,5 +186,6 @@ fn minimums() -> Vec<(String, u64)> {
     for kind in ["found", "missing", "null"].iter() {
         least(500, format!("A {}", kind));
     }
+    least(50, "A refused 16 + A refused 17".to_string());
     list
 }

@@ -2,9 +2,11 @@
 //!
 //! usage: compare BATCH RUST OTHER [--no-minimums] [--model]
 //!
-//! RUST has the oracle's answers, or with `--model` those of a model, and OTHER those of the side that is compared, in the same form. From a model no difference is listed. Prints how many inputs gave each answer
-//! and how often each listed difference occurred. Exit 1: a difference that is not listed (the first five are printed), answers that end
-//! early or late, or a class with too few inputs, which `--no-minimums` allows. Exit 2: a file that cannot be read.
+//! RUST has the oracle's answers, or with `--model` those of a model, and OTHER those of the side that is compared, in the same form; but
+//! where the oracle says `refused nom ..`, OTHER must say `refused 16 OFFSET` or `refused 17 OFFSET` as the rules have it. From a model no
+//! difference is listed. Prints how many inputs gave each answer and how often each listed difference occurred. Exit 1: a difference that
+//! is not listed (the first five are printed), answers that end early or late, or a class with too few inputs, which `--no-minimums`
+//! allows. Exit 2: a file that cannot be read.
 
 mod classes;
 mod records;
@@ -33,11 +35,11 @@ struct Comparison {
 
 fn main() {
     let mut paths: Vec<String> = std::env::args().skip(1).collect();
-    let all = paths.len();
-    let model = paths.iter().any(|argument| argument == "--model");
+    let has = |option: &str| paths.iter().any(|argument| argument == option);
+    let (minimums, model) = (!has("--no-minimums"), has("--model"));
     paths.retain(|argument| argument != "--no-minimums" && argument != "--model");
     let outcome = match &paths[..] {
-        [batch, rust, other] => run(batch, rust, other, all == paths.len(), if model { "model" } else { "Rust" }),
+        [batch, rust, other] => run(batch, rust, other, minimums, if model { "model" } else { "Rust" }),
         _ => Err(io::Error::new(io::ErrorKind::InvalidInput, "usage: compare BATCH RUST OTHER [--no-minimums] [--model]")),
     };
     match outcome {
@@ -54,7 +56,7 @@ fn run(batch: &str, rust: &str, other: &str, minimums: bool, side: &'static str)
     let mut comparison = Comparison { side, ..Comparison::default() };
     let whole = comparison.read(Batch::open(batch)?, Answers::open(rust)?, Answers::open(other)?)?;
     comparison.print();
-    let thin = if minimums { comparison.classes.thin() } else { Vec::new() };
+    let thin = if minimums { comparison.classes.thin(side == "model") } else { Vec::new() };
     for class in &thin {
         println!("thin: {}", class);
     }
@@ -84,14 +86,14 @@ impl Comparison {
 
     fn add(&mut self, input: Input, rust: Vec<String>, other: Vec<String>) {
         self.inputs += 1;
-        self.classes.add(&input, &rust);
+        self.classes.add(&input, &rust, &other);
         self.settle(Some((&input, &other)));
-        let asked = rust != ["not-utf8"] || std::str::from_utf8(&input.bytes).is_ok();
+        let asked = input.kind != b'D' || rust != ["not-utf8"] || std::str::from_utf8(&input.bytes).is_ok();
         if !asked {
             self.waiting = Some((input, other));
         } else if self.side == "model" && rust != other {
             self.differ(&input, &rust, &other);
-        } else if self.side != "model" && (rust != other || unsound(&rust)) {
+        } else if self.side != "model" && (rust != other || rules::names_nom(&rust) || unsound(&rust)) {
             self.judge(&input, &rust, &other);
         }
     }

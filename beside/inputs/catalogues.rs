@@ -15,11 +15,12 @@ pub struct Catalogue {
     pub structs: Vec<(u16, Vec<(u16, u16)>)>,
 }
 
-/// A catalogue's bytes, and where its three counts and its five marks stand.
+/// A catalogue's bytes, and where its three counts, its five marks and the bytes of its padding stand.
 pub struct Written {
     pub bytes: Vec<u8>,
     counts: Vec<usize>,
     marks: Vec<usize>,
+    padding: Vec<usize>,
     big: bool,
 }
 
@@ -50,7 +51,7 @@ impl Catalogue {
     }
 
     pub fn written(&self, big: bool, random: &mut Random) -> Written {
-        let mut out = Written { bytes: Vec::new(), counts: Vec::new(), marks: Vec::new(), big };
+        let mut out = Written { bytes: Vec::new(), counts: Vec::new(), marks: Vec::new(), padding: Vec::new(), big };
         out.mark(b"SDNA");
         out.mark(b"NAME");
         out.count(self.names.len());
@@ -62,8 +63,8 @@ impl Catalogue {
         for (_, size) in &self.types {
             out.short(*size);
         }
-        let padding = self.types.len() % 2 * 2;
-        out.bytes.extend(random.bytes(padding));
+        let padding = random.bytes(self.types.len() % 2 * 2);
+        out.pad(&padding);
         out.mark(b"STRC");
         out.count(self.structs.len());
         for (kind, fields) in &self.structs {
@@ -152,7 +153,14 @@ impl Written {
         }
         let padding = (4 - (self.bytes.len() - start) % 4) % 4;
         let zeros = random.once_in(2);
-        self.bytes.extend((0..padding).map(|_| if zeros { 0 } else { random.byte() }));
+        let padding: Vec<u8> = (0..padding).map(|_| if zeros { 0 } else { random.byte() }).collect();
+        self.pad(&padding);
+    }
+
+    fn pad(&mut self, padding: &[u8]) {
+        let start = self.bytes.len();
+        self.bytes.extend_from_slice(padding);
+        self.padding.extend(start..self.bytes.len());
     }
 
     fn record(&mut self, kind: u16, fields: &[(u16, u16)]) {
@@ -178,6 +186,21 @@ impl Written {
                 let at = random.below(length);
                 self.bytes[at] = random.byte();
             }
+        }
+    }
+
+    /// Ends early: within a mark, a count or padding, or anywhere. At times the last byte that is left is another, so that the beginning
+    /// of a mark may be a wrong one.
+    pub fn cut(&mut self, random: &mut Random) {
+        let at = match random.below(5) {
+            0 => self.marks[random.below(self.marks.len())] + random.below(4),
+            1 => self.counts[random.below(self.counts.len())] + random.below(4),
+            2 if !self.padding.is_empty() => self.padding[random.below(self.padding.len())],
+            _ => random.below(self.bytes.len()),
+        };
+        self.bytes.truncate(at);
+        if let Some(byte) = self.bytes.last_mut().filter(|_| random.once_in(4)) {
+            *byte ^= 1 << random.below(8);
         }
     }
 

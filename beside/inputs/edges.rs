@@ -32,6 +32,7 @@ pub fn write<W: Write>(batch: &mut Batch<W>) -> io::Result<()> {
     batch.allow(usize::max_value());
     for text in DECLARATORS {
         batch.put(b'D', text.as_bytes())?;
+        batch.put(b'f', text.as_bytes())?;
     }
     for file in FILES {
         batch.put(b'F', file)?;

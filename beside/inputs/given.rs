@@ -1,4 +1,5 @@
-//! Files that are given: whole, their catalogue in both orders, and every name in it as a declarator.
+//! Files that are given: whole, their catalogue in both orders, and every name in it as a declarator; those that begin as a function pointer
+//! does also as one.
 
 use crate::batch::Batch;
 use crate::declarators;
@@ -31,6 +32,9 @@ fn names<W: Write>(payload: &[u8], seen: &mut HashSet<Vec<u8>>, batch: &mut Batc
     for name in names[..end].split(|&byte| byte == 0) {
         if seen.insert(name.to_vec()) {
             declarators::put(name, batch)?;
+            if name.starts_with(b"(") && std::str::from_utf8(name).is_ok() {
+                batch.put(b'f', name)?;
+            }
         }
     }
     Ok(())

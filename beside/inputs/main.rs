@@ -11,20 +11,25 @@
 //! - 20, declarators: all short ones over `()*[]+-019a` (up to 4 bytes of 200,000, up to 5 of 1,000,000), then longer ones with several
 //!   dimensions, numbers and products around 2^64, spaces, bytes that are not UTF-8.
 //! - 8, headers: document 01's examples, every cut, each byte left out or written over, before blocks that are read and by themselves.
-//! - 17, scenes that are read, an eighth in each form: blocks of all codes, several DNA1 blocks, catalogues of any names, sizes and
+//! - 15, scenes that are read, an eighth in each form: blocks of all codes, several DNA1 blocks, catalogues of any names, sizes and
 //!   padding, end marks inside payloads, bytes after the end mark.
-//! - 27, damaged scenes: a byte changed, dropped or put in; a cut; wrong sizes, addresses, counts, codes, catalogues, ends.
+//! - 22, damaged scenes: a byte changed, dropped or put in; a cut; wrong sizes, addresses, counts, codes, catalogues, ends.
 //! - 4, a small scene in each form with each byte written over.
 //! - 11, catalogues in either order, half of them damaged, with counts up to 2^32-1.
-//! - 6, slices for primitive values.
-//! - 7, searches for an address.
+//! - 5, slices for primitive values.
+//! - 6, searches for an address.
+//! - 4, files, headers and catalogues that end early: a small scene in each form at every place, then any at the reads that are short.
+//! - 5, function pointers by themselves: all short words over `(*)f[`, then every beginning of longer ones, and those with a character
+//!   written over. All are UTF-8.
 
 mod addresses;
 mod batch;
 mod catalogues;
+mod cuts;
 mod damage;
 mod declarators;
 mod edges;
+mod functions;
 mod given;
 mod headers;
 mod mutations;
@@ -38,15 +43,17 @@ use std::io::{self, Stdout};
 
 type Section = fn(&mut Random, usize, &mut Batch<Stdout>) -> io::Result<()>;
 
-const SECTIONS: [(usize, Section); 8] = [
+const SECTIONS: [(usize, Section); 10] = [
     (20, declarators::write),
     (8, headers::write),
-    (17, scenes::write),
-    (27, damage::write),
+    (15, scenes::write),
+    (22, damage::write),
     (4, mutations::write),
     (11, catalogues::write),
-    (6, values::write),
-    (7, addresses::write),
+    (5, values::write),
+    (6, addresses::write),
+    (4, cuts::write),
+    (5, functions::write),
 ];
 
 fn main() {

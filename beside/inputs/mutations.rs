@@ -46,11 +46,12 @@ fn difference(byte: u8, round: usize) -> u8 {
     list[round - 1]
 }
 
-/// A principal block, a DATA block with an end mark in it, an earlier DNA1 block with nothing, and the last.
-fn small(random: &mut Random, form: Form) -> Scene {
+/// A principal block, a DATA block with an end mark in it, an earlier DNA1 block with nothing, and the last, which has padding in all three
+/// places.
+pub fn small(random: &mut Random, form: Form) -> Scene {
     let catalogue = Catalogue {
-        names: vec![b"x".to_vec(), b"*y[2]".to_vec()],
-        types: vec![(b"int".to_vec(), 4)],
+        names: vec![b"x".to_vec(), b"*y[2]".to_vec(), Vec::new()],
+        types: vec![(b"int".to_vec(), 4), (b"ID".to_vec(), 12), (b"float".to_vec(), 4)],
         structs: vec![(0, vec![(0, 0), (0, 1)])],
     };
     let block = |code: &[u8; 4], address, payload: Vec<u8>| Block { code: *code, address, index: 1, count: 1, payload, size: None };

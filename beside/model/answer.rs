@@ -1,6 +1,7 @@
 //! The lines of text that answer one record.
 
 use crate::batch::{read_input, Input, Record, INDEX_KIND};
+use crate::faults;
 use crate::index::{build, index_lookup, plain_lookup, Finding, Refusal};
 use crate::widths::{name_lines, record_lines, NAME_KIND, RECORD_KIND};
 
@@ -13,7 +14,7 @@ pub fn answer(record: &Record) -> String {
         INDEX_KIND => index_lines(&record.input),
         NAME_KIND => name_lines(&record.input),
         RECORD_KIND => record_lines(&record.input),
-        _ => BAD_INPUT.to_string(),
+        kind => faults::lines(kind, &record.input).unwrap_or_else(|| BAD_INPUT.to_string()),
     }
 }
 

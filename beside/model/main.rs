@@ -1,14 +1,27 @@
-//! A model of the index over the row table, and of declarators and their
-//! widths, written from documents 01 and 02 without the code. The library
-//! answers the same batches (blendscan/asks.c), and beside/run holds the two
-//! texts against each other.
+//! A model of the index over the row table, of declarators and their widths,
+//! and of files, headers, catalogues and function pointers with the place of
+//! what does not read, written from documents 01 and 02 without the code. The
+//! library answers the same batches (blendscan/asks.c, and of the last the
+//! program of crates/vectors), and beside/run holds the two texts against each
+//! other.
 //!
 //!     model indexes SEED COUNT >batch     writes COUNT generated records
 //!     model widths SEED COUNT >batch      the same, of names and declarators
+//!     model faults SEED COUNT >batch      the same, of files, headers and catalogues, and of function pointers
 //!     model answer <batch >answers        answers each record
 
 mod answer;
 mod batch;
+mod fault_catalogues;
+mod fault_damages;
+mod fault_drafts;
+mod fault_files;
+mod fault_inputs;
+mod fault_reads;
+mod fault_samples;
+#[cfg(test)]
+mod fault_tests;
+mod faults;
 mod index;
 mod inputs;
 mod random;
@@ -23,7 +36,7 @@ mod widths;
 
 use std::io::{self, BufReader, BufWriter, Write};
 
-const USAGE: &str = "usage: model indexes|widths SEED COUNT >batch | model answer <batch >answers";
+const USAGE: &str = "usage: model indexes|widths|faults SEED COUNT >batch | model answer <batch >answers";
 
 fn main() {
     let words: Vec<String> = std::env::args().skip(1).collect();
@@ -31,6 +44,7 @@ fn main() {
     let done = match words.as_slice() {
         ["indexes", seed, count] => write_inputs(seed, count, inputs::record),
         ["widths", seed, count] => write_inputs(seed, count, width_inputs::record),
+        ["faults", seed, count] => write_inputs(seed, count, fault_inputs::record),
         ["answer"] => write_answers(),
         _ => stop(USAGE),
     };

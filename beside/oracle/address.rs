@@ -1,8 +1,8 @@
 //! The search for an address, and the code of each block; and the search alone, as often as the library makes it through an index.
 
-use crate::file::number;
 use crate::parsers::blend::{Block, RawBlend};
 use crate::parsers::{Endianness, PointerSize};
+use crate::refusal;
 use crate::runtime::{code_of, search, PointerInfo};
 
 /// `input` is 8 bytes of address, little-endian, and a whole file.
@@ -26,7 +26,7 @@ fn asked(input: &[u8], out: &mut String, tell: impl Fn(RawBlend, &[u8], &mut Str
     let (address, file) = input.split_at(8);
     match RawBlend::from_data(file) {
         Ok(blend) => tell(blend, address, out),
-        Err(error) => line!(out, "refused {}", number(&error)),
+        Err(error) => line!(out, "{}", refusal::line(&error, traced::file(file), file)),
     }
 }
 

@@ -2,17 +2,28 @@
 
 use crate::parsers::dna::{Dna, DnaParseContext};
 use crate::parsers::{BlendParseError, Endianness, PointerSize};
+use crate::refusal;
 use crate::text::push_hex;
 use nom::Err;
 
 pub fn answer(payload: &[u8], order: Endianness, out: &mut String) {
     // The pointer size is kept by the context and not read.
     let context = DnaParseContext::new(order, PointerSize::Bits64);
-    match context.dna(payload) {
-        Ok((rest, dna)) => accepted(&dna, payload.len() - rest.len(), out),
-        Err(Err::Error(BlendParseError::NomError { .. })) => line!(out, "refused 2"),
+    match (context.dna(payload), traced(payload, order)) {
+        (Ok((rest, dna)), Ok(())) => accepted(&dna, payload.len() - rest.len(), out),
+        (Ok(_), Err(_)) => line!(out, "oracle-inconsistent"),
+        (Err(Err::Error(error @ BlendParseError::NomError { .. })), traced) => {
+            line!(out, "{}", refusal::line(&error, traced, payload))
+        }
         // A catalogue has no other refusal: a line that no other side has.
-        Err(_) => line!(out, "refused otherwise"),
+        (Err(_), _) => line!(out, "refused otherwise"),
+    }
+}
+
+fn traced(payload: &[u8], order: Endianness) -> Result<(), traced::Error> {
+    match order {
+        Endianness::Little => traced::catalogue(payload, traced::Endianness::Little),
+        Endianness::Big => traced::catalogue(payload, traced::Endianness::Big),
     }
 }
 

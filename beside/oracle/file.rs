@@ -5,43 +5,28 @@ use crate::catalogue::counts;
 use crate::parsers::again;
 use crate::parsers::blend::{Block, BlockData, FileFormat, Header, RawBlend};
 use crate::parsers::dna::Dna;
-use crate::parsers::{BlendParseError, Endianness, PointerSize};
+use crate::parsers::{Endianness, PointerSize};
+use crate::refusal;
 use crate::text::hash;
-use nom::Err;
 
 pub fn answer(bytes: &[u8], out: &mut String) {
     match (RawBlend::from_data(bytes), walk(bytes)) {
-        (Ok(blend), Ok(walk)) if agree(&blend, &walk) => accepted(&blend, &walk, out),
-        (Err(error), Err(again)) if number(&error) == again => line!(out, "refused {}", again),
+        (Ok(blend), Ok(walk)) if agree(&blend, &walk) && traced::file(bytes).is_ok() => accepted(&blend, &walk, out),
+        (Err(error), Err(again)) if refusal::number(&error) == again => {
+            line!(out, "{}", refusal::line(&error, traced::file(bytes), bytes))
+        }
         _ => line!(out, "oracle-inconsistent"),
     }
 }
 
 /// A header by itself, by the Rust's `header`. What it took is what it does not hand back as the rest.
 pub fn header_answer(bytes: &[u8], out: &mut String) {
-    match again::header(bytes) {
-        Ok((rest, header)) => line!(out, "header {} {}", header_words_again(&header), bytes.len() - rest.len()),
-        Err(error) => line!(out, "refused {}", number_in_nom(error)),
-    }
-}
-
-/// Document 01's number of a refusal; 0 for those that do not occur.
-pub fn number(error: &BlendParseError) -> u32 {
-    match error {
-        BlendParseError::CompressedFileNotSupported => 1,
-        BlendParseError::NomError { .. } => 2,
-        BlendParseError::InvalidMemoryAddress => 3,
-        BlendParseError::UnsupportedCountOnPrincipalBlock => 4,
-        BlendParseError::UnknownBlockCode => 5,
-        BlendParseError::NoDnaBlockFound => 6,
-        BlendParseError::IoError(_) | BlendParseError::NotEnoughData => 0,
-    }
-}
-
-fn number_in_nom(error: Err<BlendParseError>) -> u32 {
-    match error {
-        Err::Failure(error) | Err::Error(error) => number(&error),
-        Err::Incomplete(_) => 0,
+    match (again::header(bytes), traced::header(bytes)) {
+        (Ok((rest, header)), Ok(())) => {
+            line!(out, "header {} {}", header_words_again(&header), bytes.len() - rest.len())
+        }
+        (Err(error), traced) => line!(out, "{}", refusal::line(&refusal::inner(error), traced, bytes)),
+        _ => line!(out, "oracle-inconsistent"),
     }
 }
 
@@ -62,12 +47,14 @@ struct Walk {
     end: usize,
 }
 
+/// The walk, or document 01's number of what ended it.
 fn walk(bytes: &[u8]) -> Result<Walk, u32> {
-    let (mut rest, header) = again::header(bytes).map_err(number_in_nom)?;
+    let number = |error| refusal::number(&refusal::inner(error));
+    let (mut rest, header) = again::header(bytes).map_err(number)?;
     let context = again::context(header.clone());
     let mut rows = Vec::new();
     while !rest.starts_with(b"ENDB") {
-        let (next, block) = again::block(&context, rest).map_err(number_in_nom)?;
+        let (next, block) = again::block(&context, rest).map_err(number)?;
         let taken = &rest[..rest.len() - next.len()];
         rows.push(row(&context, bytes.len() - rest.len(), taken, block));
         rest = next;

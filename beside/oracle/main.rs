@@ -4,18 +4,25 @@
 //! the lines of each answer and then the line `.`. Numbers are decimal; bytes, codes, hashes and floats' bits are hexadecimal.
 //!
 //! - `F`, a whole file: `file E P O MAJOR MINOR ROWS END N T S F`, and for each row
-//!   `row CODE ADDRESS INDEX COUNT AT PAYLOAD-AT LENGTH FNV1A64-OF-PAYLOAD`; or `refused N`.
-//! - `H`, a file's header by itself: `header E P O MAJOR MINOR LENGTH`, or `refused N`.
+//!   `row CODE ADDRESS INDEX COUNT AT PAYLOAD-AT LENGTH FNV1A64-OF-PAYLOAD`; or `refused ..`.
+//! - `H`, a file's header by itself: `header E P O MAJOR MINOR LENGTH`, or `refused ..`.
 //! - `D`, a declarator: `value`, `array`, `pointer`, `pointer-array` or `fn`, then `NAME-AT NAME-LENGTH REST-AT`, then the indirection of a
 //!   pointer, then the length, the number of dimensions and the dimensions of an array; or `refused 9`, `not-utf8`, `panic`.
+//! - `f`, a function pointer by itself: `fn NAME-AT NAME-LENGTH REST-AT REST-LENGTH`; or `refused nom KIND`, `not-utf8`.
 //! - `C`, `c`, a catalogue in little or big order: `dna N T S F END`, then all `name LENGTH BYTES`, all `type SIZE LENGTH BYTES`, all
-//!   `struct TYPE FIRST COUNT`, all `field TYPE NAME`; or `refused 2`. A name that holds U+FFFD has `lossy` in place of the length. Where
-//!   there are no bytes the line ends after the length.
+//!   `struct TYPE FIRST COUNT`, all `field TYPE NAME`; or `refused nom ..`. A name that holds U+FFFD has `lossy` in place of the length.
+//!   Where there are no bytes the line ends after the length.
 //! - `P`, a slice: `KIND ORDER VALUE` for each kind, in little order and then in big; or `KIND ORDER panic`.
 //! - `N`, whatever the input: `KIND NAME` for each kind of primitive value.
 //! - `A`, an address of 8 bytes, little-endian, and a whole file: `null`, `found ROW` or `missing`, then for each row `code CODE` or
-//!   `code none`; or `refused N`.
-//! - `a`, the same input: `null`, `found ROW` or `missing`, five times; or `refused N`.
+//!   `code none`; or `refused ..`.
+//! - `a`, the same input: `null`, `found ROW` or `missing`, five times; or `refused ..`.
+//!
+//! A refusal is `refused N`, N document 01's number of the Rust's error. In the place of `refused 2`, which is `NomError`, stands
+//! `refused nom KIND OFFSET LEFT`, and then `KIND OFFSET` for each reader around the one that failed, from the inside out: nom's kind of
+//! error, the offset in the file, or in the payload of a catalogue by itself, of what the reader was given, and how many bytes the failed
+//! one was given. Offsets come from a further reading with the Rust's blend.rs and dna.rs (the crate `traced`), which must give the same
+//! error with the same kinds. Of a function pointer only the kind is known.
 //!
 //! Any answer may be `panic`, where the Rust panics; `memory`, for an input longer than `memory::LONGEST`, which is not asked; and
 //! `oracle-inconsistent`, where two readings by the Rust differ.
@@ -30,6 +37,7 @@ mod file;
 mod memory;
 #[allow(warnings)]
 mod parsers;
+mod refusal;
 #[allow(warnings)]
 mod runtime;
 mod values;
@@ -96,6 +104,7 @@ fn answer(kind: u8, bytes: &[u8]) -> String {
             b'F' => file::answer(bytes, &mut text),
             b'H' => file::header_answer(bytes, &mut text),
             b'D' => declarator::answer(bytes, &mut text),
+            b'f' => declarator::function_answer(bytes, &mut text),
             b'C' => catalogue::answer(bytes, Endianness::Little, &mut text),
             b'c' => catalogue::answer(bytes, Endianness::Big, &mut text),
             b'P' => values::answer(bytes, &mut text),

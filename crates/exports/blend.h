@@ -7,11 +7,10 @@
  * reads and writes: a file that is mapped and that another program writes to is best copied first.
  *
  * In every answer `refusal` is 0, or the number of a refusal. On a refusal the tables hold what they held, and every number of the answer that the refusal does not
- * carry is 0 and says nothing: look at `refusal` first. On an answer what a refusal carries (`needed` and `table`; of an index `buckets` and `rows`) is 0, and a
- * table's numbers past those used are as they were.
+ * carry is 0 and says nothing (but a step's next place): look at `refusal` first. On an answer what a refusal carries (`fault_at`, `needed` and `table`; of an index `buckets` and `rows`) is 0,
+ * and a table's numbers past those used are as they were.
  *
  *    1  the file does not begin with "BLENDER": it is compressed, or no .blend file
- *    2  malformed: a byte is missing, or a mark is wrong
  *    3  a block whose address is 0
  *    4  a principal block (two bytes and then two zeros for a code, as objects have it) whose count is not 1
  *    5  a block whose code is none of REND, TEST, GLOB, DATA, DNA1 and those of principal blocks
@@ -22,9 +21,17 @@
  *   10  a product over 2^64-1
  *   11  the table of dimensions is too short; `needed` has how many there are
  *   12  a value's slice is too short
- *   13  a row, or the bytes that it tells of, are not there
+ *   13  a row, or the bytes that it tells of, or a walk's place, are not there
  *   14  no bucket, or a table of an index is too short; `buckets` and `rows` have the numbers that heads and links need
  *   15  a field's name is not fully read, so that it has no width: something is left over after its declarator, or it was refused
+ *   16  cut short: fewer bytes are left than the next read wants, or no zero ends a string; `fault_at` has the offset of that read's first byte. In a DNA1's
+ *       catalogue the bytes end where its payload does
+ *   17  wrong mark: enough bytes are left, and they are not the mark that has to stand there; `fault_at` has the offset of the mark's first byte
+ *
+ * There is no 2: what was malformed is 16 or 17. `fault_at` is an offset in the file, also where the fault is in a DNA1's catalogue, and in the payload where
+ * blend_catalogue reads a payload by itself. One mark, code, number, string, padding, payload, pair of unchecked header bytes or version is one read. A file that
+ * would be read, but ends before the end of its end mark, is always 16, at an offset of at most its length, or 1 where fewer than 7 bytes are left: a 17 is no cut
+ * upload. A 16 need not be one: a size or a count that is too large asks for bytes that are not there, too.
  *
  * The earliest fault is reported; 7, 8 and 11 come only when all else reads (but 11 before 10).
  *
@@ -63,26 +70,39 @@ extern "C" {
 #define BLEND_STRUCT 3
 #define BLEND_FIELD 2
 
-/* The header: edition 0 legacy, 1 new; 4 or 8 bytes to a pointer; the byte order; the version; and the header's length, 12 or 17. Refusals 1, 2. */
+/* The header: edition 0 legacy, 1 new; 4 or 8 bytes to a pointer; the byte order; the version; and the header's length, 12 or 17. Refusals 1, 16, 17. */
 struct blend_header {
-    uint64_t refusal, edition, pointer_bytes, order, major, minor, length;
+    uint64_t refusal, fault_at, edition, pointer_bytes, order, major, minor, length;
 };
 struct blend_header blend_header(const uint8_t *file, size_t length);
 
 /* The whole file: what its header says, how many rows (one to a block, as they stand in the file), the offset after the end mark, and the counts of the last DNA1's
  * catalogue. Into the table go for each row: the code (first byte most significant), the address, the index, the count, the offset of the block header, the
- * offset of the payload, the length of the payload. Offsets are the file's. Refusals 1 to 7. */
+ * offset of the payload, the length of the payload. Offsets are the file's. Refusals 1, 3 to 7, 16, 17. */
 struct blend_read {
-    uint64_t refusal, needed, edition, pointer_bytes, order, major, minor, rows, end, names, types, structs, fields;
+    uint64_t refusal, fault_at, needed, edition, pointer_bytes, order, major, minor, rows, end, names, types, structs, fields;
 };
 struct blend_read blend_read(const uint8_t *file, size_t length, uint64_t *table, size_t numbers);
+
+/* One step of a walk from block to block, without a table. A place goes in: an offset, and whether the block before it is a DNA1 (0 no, any other number yes); a
+ * walk starts at 0 and 0, and any offset up to the header's end stands for the first block, with no block before it. Out comes kind 0, a block, with what its row would
+ * hold (`length` is the payload's) and `end` 0, or kind 1, the end, with the offset after the end mark in `end` and the row's numbers 0; and the next place, next_at and
+ * next_dna (0 or 1). On a refusal and at the end the next place is the one that went in, so the same step answers the same again.
+ * From the start the steps give the rows of blend_read one after another, and then its end, or its refusal with the same fault_at (7 aside). So the block that a fault is
+ * in begins at the place of the step that was refused, or, where that place was 0 and blend_header is not refused, at the header's end (blend_header has its length).
+ * Refusals 13, where the place lies past
+ * the file's end, and then those of blend_read but 7. */
+struct blend_step {
+    uint64_t refusal, fault_at, kind, code, address, index, count, at, payload, length, end, next_at, next_dna;
+};
+struct blend_step blend_step(const uint8_t *file, size_t file_length, size_t at, uint64_t dna);
 
 /* The catalogue of a DNA1's payload (by blend_view), in the file's byte order. Into the tables go: of a name its offset in the payload and its length; of a type the same
  * of its name, and its size; of a struct its type's number, its first row in the fields, and how many fields it has; of a field its type's number and its
  * name's number. The numbers of types and names are as the file has them: they may lie past the end of their list. 8 names the first of the four tables that is
- * too short, so an earlier DNA1 may take four calls to size. Refusals 2, 8. */
+ * too short, so an earlier DNA1 may take four calls to size. Refusals 16, 17, 8. */
 struct blend_catalogue {
-    uint64_t refusal, table, needed, names, types, structs, fields;
+    uint64_t refusal, fault_at, table, needed, names, types, structs, fields;
 };
 struct blend_catalogue blend_catalogue(const uint8_t *payload, size_t length, uint64_t order, uint64_t *names, size_t names_numbers, uint64_t *types,
                                        size_t types_numbers, uint64_t *structs, size_t structs_numbers, uint64_t *fields, size_t fields_numbers);

@@ -1,6 +1,6 @@
 -- How the reader's answer comes together: what the first pass counted, the room in the table, and the header before it all.
 use Prim.Native.Nat.{ℕ, suc, _+_, _/_, _≤_, _<_}
-use mathlib.Core.List.{List, [], _∷_, _++_}
+use mathlib.Core.List.{List, _∷_, _++_}
 use mathlib.Core.Path.{_≡_, refl, sym, _∙_, ap}
 use native.Mathlib.Omega.{arith}
 use borrow.Author.Tests.{lt-ltb, le-ltb}
@@ -8,7 +8,7 @@ use lib.ListN.{length}
 use Rattle.bytes.specs.declared.Fault.{Fault}
 use Rattle.bytes.specs.Helpers.{put}
 use Rattle.bytes.specs.Paper.{Paper}
-use Rattle.bytes.specs.Paper.Paper.{accepts, refuses}
+use Rattle.bytes.specs.Paper.Paper.{accepts}
 use Rattle.bytes.specs.Reader.{Outcome, run}
 use Rattle.bytes.specs.Reader.Outcome.{read, fault}
 use Rattle.bytes.specs.Refusals.{blockTableTooShort, paperFault}
@@ -22,8 +22,9 @@ use Rattle.block.specs.declared.Row.{Row}
 use Rattle.blend.specs.declared.blend.Chained.{Chained}
 use Rattle.header.specs.declared.blend.HeaderAnswer.{HeaderAnswer}
 use Rattle.blend.specs.declared.blend.Last.{Last}
-use Rattle.header.specs.Header.{HeaderBytes, headerBytes, valued, headerNumbers, headerAs, paperHeader, refusalOf}
-use Rattle.blend.specs.Chain.{Chain, chainFrom, countNumbers, answerFor, onHeader, readAs, rowsOf, fileBy, tableAfter}
+use Rattle.header.specs.Header.{HeaderBytes, headerBytes, valued, headerNumbers, headerAs, paperHeader, faultOf}
+use Rattle.dna.specs.Catalogue.{countNumbers}
+use Rattle.blend.specs.Chain.{Chain, chainFrom, answerFor, onHeader, readAs, rowsOf, fileBy, tableAfter}
 use Rattle.block.specs.Rows.{perRow, rowTable}
 use Rattle.blend.specs.Helpers.{summed, summedAs, rowsFrom}
 use Rattle.blend.proofs.Chains.{rows-again}
@@ -50,8 +51,8 @@ module _ (c : Chain) where
 
 -- the answer after a header, and the table
 module _ (h : Header) (c : Chain) (room : ℕ) where
-  pub after-stops : (x : Fault) → Chained.Stopped x ≡ summed 0 c → (k : ℕ) → refuses k [] ≡ paperFault x → refuses k [] ≡ answerFor h (length (c .rows)) room (c .last)
-  after-stops x e k g = g ∙ sym (ap (answerFor h (length (c .rows)) room) (summed-stops c x e))
+  pub after-stops : (x : Fault) → Chained.Stopped x ≡ summed 0 c → paperFault x ≡ answerFor h (length (c .rows)) room (c .last)
+  after-stops x e = sym (ap (answerFor h (length (c .rows)) room) (summed-stops c x e))
 
   module _ (rows : ℕ) (n : DnaCounts) (end : ℕ) (e : Chained.Ends rows n end ≡ summed 0 c) where
     as-read : answerFor h (length (c .rows)) room (c .last) ≡ answerFor h rows room (read n end)
@@ -113,13 +114,12 @@ module _ (s : List ℕ) where
         w ∙ ap (λ (q : Paper). written q (rowTable (chainFrom h s at .rows)) t) (g ∙ file-read (length t / perRow))
         ∙ ap (λ (o : Outcome Header). written (readAs (fileBy headerBytes s) (length t / perRow)) (rowTable (rowsOf (onHeader s o))) t) (sym header-found)
 
-  module _ (a : HeaderAnswer) (e : paperHeader a ≡ headerAs (valued (run headerBytes s 0))) (n k : ℕ) (g : a ≡ HeaderAnswer.Refused n) (w : k ≡ refusalOf a) where
-    told : (x : Fault) × (valued (run headerBytes s 0) ≡ fault x) × (refuses n [] ≡ paperFault x)
-    told = header-refused n (valued (run headerBytes s 0)) (sym (ap paperHeader g) ∙ e)
+  module _ (a : HeaderAnswer) (e : paperHeader a ≡ headerAs (valued (run headerBytes s 0))) (x y : Fault) (g : a ≡ HeaderAnswer.Refused x) (w : y ≡ faultOf a) where
+    pub refused-told : valued (run headerBytes s 0) ≡ fault y
+    refused-told =
+        let stop : Fault → Outcome Header = fault in
+        header-refused x (valued (run headerBytes s 0)) (sym (ap paperHeader g) ∙ e) ∙ ap stop (sym (w ∙ ap faultOf g))
 
-    pub refused-told : (x : Fault) × (valued (run headerBytes s 0) ≡ fault x) × (refuses k [] ≡ paperFault x)
-    refused-told = (told .0, told .1, ap (λ (m : ℕ). refuses m []) (w ∙ ap refusalOf g) ∙ told .2)
-
-    pub file-refused : (room : ℕ) → refuses k [] ≡ readAs (fileBy headerBytes s) room
+    pub file-refused : (room : ℕ) → paperFault y ≡ readAs (fileBy headerBytes s) room
     unfolding readAs
-    file-refused room = refused-told .2 ∙ sym (ap (λ (o : Outcome Header). readAs (onHeader s o) room) (refused-told .1))
+    file-refused room = sym (ap (λ (o : Outcome Header). readAs (onHeader s o) room) refused-told)

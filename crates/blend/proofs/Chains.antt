@@ -70,12 +70,14 @@ block-moves h s at r l next e =
     let w = block-lies h s at r l next e in
     (omega (arith, w .header, w .payload, header-at-least (h .format) (h .«pointer_size»)), w .inside)
 
--- nothing is read at the end of the file
-pub end-stops : (h : Header) (s : List ℕ) (at : ℕ) → length s ≤ at → boundaryOf h s at ≡ Boundary.Stopped (Cut at)
-end-stops h s at e =
-    let k : length s < at + 4 = omega arith in
+-- nothing is read where there is no room for a code
+pub code-stops : (h : Header) (s : List ℕ) (at : ℕ) → length s < at + 4 → boundaryOf h s at ≡ Boundary.Stopped (Cut at)
+code-stops h s at k =
     sym (boundary-stops h s at (sym (stands-cut s at (ascii "ENDB") (λ z. absurd (omega arith)) k)) (Cut at)
     (row-no-header h s at (Cut at) (code-cut h s at k)))
+
+pub end-stops : (h : Header) (s : List ℕ) (at : ℕ) → length s ≤ at → boundaryOf h s at ≡ Boundary.Stopped (Cut at)
+end-stops h s at e = code-stops h s at (omega arith)
 
 -- Fuel: where more boundaries are left than bytes, one more can be taken off, and any number that is enough gives the same.
 module _ (h : Header) (s : List ℕ) where

@@ -35,6 +35,6 @@ single code address count = ascii "BLENDER_v280" ++ code ++ (0 ∷ 0 ∷ 0 ∷ 0
 -- a code of four zeros with count 1 and with count 2; an address of 0; no block code; no blocks
 refusals : (readAs (fileBy headerBytes (single (0 ∷ 0 ∷ 0 ∷ 0 ∷ []) 1 1)) 9 ≡ refuses 6 []) × (readAs (fileBy headerBytes (single (0 ∷ 0 ∷ 0 ∷ 0 ∷ []) 1 2)) 9 ≡ refuses 4 [])
     × (readAs (fileBy headerBytes (single (ascii "REND") 0 1)) 9 ≡ refuses 3 []) × (readAs (fileBy headerBytes (single (ascii "USER") 1 1)) 9 ≡ refuses 5 [])
-    × (readAs (fileBy headerBytes (ascii "BLENDER-v280")) 9 ≡ refuses 2 []) × (readAs (fileBy headerBytes (ascii "BLENDER-v280ENDB")) 9 ≡ refuses 6 [])
+    × (readAs (fileBy headerBytes (ascii "BLENDER-v280")) 9 ≡ refuses 16 (12 ∷ [])) × (readAs (fileBy headerBytes (ascii "BLENDER-v280ENDB")) 9 ≡ refuses 6 [])
 unfolding run then times headerBytes legacy new decimal chainFrom chain boundaryOf rowAt block blockHeader fields kindOf finished catalogue listed strings sized structured struct fieldCount readAs
 refusals = (refl, refl, refl, refl, refl, refl)

@@ -7,3 +7,4 @@ pub mod Lossless
 pub mod Answers
 pub mod Examples
 pub mod Refusing
+pub mod Cutting

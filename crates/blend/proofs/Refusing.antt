@@ -1,4 +1,5 @@
--- Why a file is not read is a cut, a wrong mark, or a refusal whose number is not 0: so a number 0 can tell that it was read.
+-- Why a file is not read is a cut, a wrong mark, or a refusal whose number is one of 1 and 3 to 6: so a number 0 can tell that it was read, 16 and 17 tell of cuts and
+-- marks alone, and 2 is given by none.
 use Prim.Native.Nat.{ℕ, zero, suc, _+_}
 use mathlib.Core.Bool.{Bool, true, false}
 use mathlib.Core.List.{List, []}
@@ -36,12 +37,12 @@ taken-gives Kind.Test n = tt
 taken-gives Kind.Global n = tt
 taken-gives Kind.Subsidiary n = tt
 taken-gives Kind.Dna n = tt
-taken-gives Kind.Unknown n = λ e. omega arith
+taken-gives Kind.Unknown n = (omega arith, omega arith, λ e. omega arith)
 taken-gives Kind.Principal n = go (eqb n 1)
   where
     go : (c : Bool) → Gives Counts {A = Unit {0}} (elim c as (λ (d : Bool). Reader (Unit {0})) [ true ↦ done tt | false ↦ refuse 4 ])
     go true = tt
-    go false = λ e. omega arith
+    go false = (omega arith, omega arith, λ e. omega arith)
 
 block-gives : (h : Header) → Gives Counts (block h)
 unfolding block blockHeader
@@ -68,18 +69,18 @@ module _ (h : Header) (s : List ℕ) where
   finished-told r next x e = go (isDna (kindOf (r .code))) e
     where
       by : (o : Outcome Dna) → run (catalogue (h .endianness)) (payloadOf s r) 0 ≡ o → catalogued r next o ≡ Boundary.Stopped x → Told x
-      by (read d end) t g z =
+      by (read d end) t g m z =
           let o : _≡_ {A = ℕ} 0 1 = cc in
-          omega arith
-      by (fault (Cut at)) t g z =
-          let k : Cut (r .payload + at) ≡ Refusal 0 = cc in
+          absurd (omega arith)
+      by (fault (Cut at)) t g m z =
+          let k : Cut (r .payload + at) ≡ Refusal m = cc in
           let o : _≡_ {A = ℕ} 0 1 = cc in
-          omega arith
-      by (fault (Mark at)) t g z =
-          let k : Mark (r .payload + at) ≡ Refusal 0 = cc in
+          absurd (omega arith)
+      by (fault (Mark at)) t g m z =
+          let k : Mark (r .payload + at) ≡ Refusal m = cc in
           let o : _≡_ {A = ℕ} 0 1 = cc in
-          omega arith
-      by (fault (Refusal n)) t g z = given (λ m. ⊥) (catalogue (h .endianness)) (catalogue-gives (λ m. ⊥) (h .endianness)) (payloadOf s r) 0 n t
+          absurd (omega arith)
+      by (fault (Refusal n)) t g m z = absurd (given (λ i. ⊥) (catalogue (h .endianness)) (catalogue-gives (λ i. ⊥) (h .endianness)) (payloadOf s r) 0 n t)
 
       go : (c : Bool) → (elim c as (λ (d : Bool). Boundary) [ true ↦ catalogued r next (run (catalogue (h .endianness)) (payloadOf s r) 0) | false ↦ Boundary.Block r Last.Other next ]) ≡ Boundary.Stopped x → Told x
       go true g = by (run (catalogue (h .endianness)) (payloadOf s r) 0) refl g
@@ -87,7 +88,7 @@ module _ (h : Header) (s : List ℕ) where
           let z : _≡_ {A = ℕ} 0 1 = cc in
           absurd (omega arith)
 
-  boundary-told : (at : ℕ) (x : Fault) → boundaryOf h s at ≡ Boundary.Stopped x → Told x
+  pub boundary-told : (at : ℕ) (x : Fault) → boundaryOf h s at ≡ Boundary.Stopped x → Told x
   unfolding boundaryOf
   boundary-told at x e = go (stands s at (ascii "ENDB")) e
     where
@@ -104,20 +105,20 @@ module _ (h : Header) (s : List ℕ) where
       go false g = by (rowAt h s at) refl g
 
   ended-told : (l : Last) (next : ℕ) (x : Fault) → ended l next ≡ fault x → Told x
-  ended-told Last.Other next x e z =
-      let k : Refusal 6 ≡ Refusal 0 = cc in
-      let n : _≡_ {A = ℕ} 6 0 = cc in
-      omega arith
-  ended-told (Last.Dna n) next x e z =
+  ended-told Last.Other next x e m z =
+      let k : Refusal 6 ≡ Refusal m = cc in
+      let n : 6 ≡ m = cc in
+      (omega arith, omega arith, λ o. omega arith)
+  ended-told (Last.Dna n) next x e m z =
       let o : _≡_ {A = ℕ} 0 1 = cc in
-      omega arith
+      absurd (omega arith)
 
   chain-told : (k at : ℕ) (l : Last) (x : Fault) → chain k h s at l .last ≡ fault x → Told x
   unfolding chain
-  chain-told zero at l x e = λ z.
-      let k : Cut at ≡ Refusal 0 = cc in
+  chain-told zero at l x e = λ m z.
+      let k : Cut at ≡ Refusal m = cc in
       let n : _≡_ {A = ℕ} 0 1 = cc in
-      omega arith
+      absurd (omega arith)
   chain-told (suc k) at l x e = go (boundaryOf h s at) refl (λ next m. chain-told k next m x) e
     where
       go : (b : Boundary) → boundaryOf h s at ≡ b → ((next : ℕ) (m : Last) → chain k h s next m .last ≡ fault x → Told x) → link b l at (chain k h s) .last ≡ fault x → Told x

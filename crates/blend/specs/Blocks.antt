@@ -1,7 +1,7 @@
 -- Blocks: what is read at a boundary, in which order it is checked, and what a DNA1 block has besides.
 use Prim.Native.Nat.{ℕ, _+_}
 use mathlib.Core.Bool.{Bool, true, false}
-use mathlib.Core.List.{List, []}
+use mathlib.Core.List.{List, [], _∷_, _++_}
 use lib.Dec.{eqb}
 use Rattle.bytes.specs.declared.Fault.{Fault}
 use Rattle.bytes.specs.declared.Fault.the-variants.{Cut, Mark, Refusal}
@@ -9,12 +9,14 @@ use Rattle.bytes.specs.Ascii.{ascii}
 use Rattle.bytes.specs.Reader.{Reader, Outcome, run, then, stands}
 use Rattle.bytes.specs.Reader.Reader.{done, refuse, skip}
 use Rattle.bytes.specs.Reader.Outcome.{read, fault}
-use Rattle.bytes.specs.Refusals.{unsupportedCountOnPrincipalBlock, unknownBlockCode}
-use Rattle.dna.specs.Catalogue.{Dna, catalogue, counts}
+use Rattle.bytes.specs.Paper.{Paper}
+use Rattle.bytes.specs.Paper.Paper.{accepts}
+use Rattle.bytes.specs.Refusals.{unsupportedCountOnPrincipalBlock, unknownBlockCode, paperFault}
+use Rattle.dna.specs.Catalogue.{Dna, catalogue, counts, countNumbers}
 use Rattle.header.specs.declared.Header.{Header}
 use Rattle.block.specs.BlockHeaders.{blockHeader}
 use Rattle.block.specs.Kinds.{kindOf, about}
-use Rattle.block.specs.Rows.{rowOf, payloadOf}
+use Rattle.block.specs.Rows.{rowOf, rowNumbers, payloadOf}
 use Rattle.block.specs.declared.BlockHeader.{BlockHeader}
 use Rattle.block.specs.declared.Row.{Row}
 use Rattle.block.specs.declared.Kind.{Kind}
@@ -67,6 +69,13 @@ finished h s r next =
 abbrev pub onRow : Header → List ℕ → Outcome Row → Boundary
 onRow h s (read r next) = finished h s r next
 onRow h s (fault f) = Boundary.Stopped f
+
+-- the paper of what is at a boundary: 0 a block, 1 the end mark, 2 a DNA1 block, with its counts
+abbrev pub paperBoundary : Boundary → Paper
+paperBoundary Boundary.EndMark = accepts 1 []
+paperBoundary (Boundary.Block r Last.Other next) = accepts 0 (next ∷ rowNumbers r)
+paperBoundary (Boundary.Block r (Last.Dna n) next) = accepts 2 (next ∷ countNumbers n ++ rowNumbers r)
+paperBoundary (Boundary.Stopped f) = paperFault f
 
 -- At each boundary: if the next 4 bytes are "ENDB", reading ends there. Otherwise a block is read: its row; whether it is a DNA1, and then its
 -- counts; and the next boundary.

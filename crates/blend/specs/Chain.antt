@@ -6,12 +6,13 @@ use lib.Dec.{ltb}
 use lib.ListN.{length}
 use Rattle.bytes.specs.declared.Fault.the-variants.{Cut, Refusal}
 use Rattle.bytes.specs.Paper.{Paper}
-use Rattle.bytes.specs.Paper.Paper.{accepts, refuses}
+use Rattle.bytes.specs.Paper.Paper.{accepts}
 use Rattle.bytes.specs.Reader.{Reader, Outcome, run}
 use Rattle.bytes.specs.Reader.Outcome.{read, fault}
 use Rattle.bytes.specs.Refusals.{noDnaBlockFound, blockTableTooShort, paperFault}
 use Rattle.bytes.specs.Tables.{written}
 use Rattle.dna.specs.declared.dna.DnaCounts.{DnaCounts}
+use Rattle.dna.specs.Catalogue.{countNumbers}
 use Rattle.header.specs.declared.Header.{Header}
 use Rattle.block.specs.declared.Row.{Row}
 use Rattle.blend.specs.declared.blend.Last.{Last}
@@ -62,9 +63,6 @@ fileBy header s = onHeader s (valued (run header s 0))
 
 -- What the reader answers, with a table of `room` rows: header, number of rows, offset after the end mark and the four counts of the last DNA1.
 -- 7 comes only when the file reads.
-abbrev pub countNumbers : DnaCounts → List ℕ
-countNumbers n = n .names ∷ n .types ∷ n .structs ∷ n .fields ∷ []
-
 abbrev pub answerFor : Header → ℕ → ℕ → Outcome DnaCounts → Paper
 answerFor h rows room (read n end) =
     elim (ltb room rows) [ true ↦ blockTableTooShort rows | false ↦ accepts 0 (headerNumbers h ++ (rows ∷ end ∷ countNumbers n)) ]
@@ -85,5 +83,5 @@ tableAfter o t = written (readAs o (length t / perRow)) (rowTable (rowsOf o)) t
 -- the paper of the answer
 abbrev pub paperBlend : BlendAnswer → Paper
 paperBlend (BlendAnswer.Is b) = accepts 0 (headerNumbers (b .header) ++ (b .rows ∷ b .end ∷ countNumbers (b .dna)))
-paperBlend (BlendAnswer.Refused n) = refuses n []
+paperBlend (BlendAnswer.Refused f) = paperFault f
 paperBlend (BlendAnswer.TableTooShort rows) = blockTableTooShort rows

@@ -262,8 +262,8 @@ pub struct RawBlend {
 /// A file that is read, or why it is not.
 pub enum BlendAnswer {
     Is(RawBlend),
-    // A refusal that carries nothing, by its number.
-    Refused(u64),
+    // Why it is refused, and where.
+    Refused(Fault),
     // Refusal 7, with the rows needed.
     TableTooShort(usize),
 }
@@ -275,7 +275,7 @@ fn read_after(file: &[u8], h: Header, from: usize, table: &mut [u64]) -> BlendAn
     ensures { λ r. ⌜ now (table .exit) ≡ written (chains.paperBlend r) (rowTable (chains.chainFrom h (now (file .entry)) from .rows)) (now (table .entry)) ⌝ }
 {
     match count_blocks(file, h, from) {
-        Chained::Stopped(f) => BlendAnswer::Refused(f.refusal()),
+        Chained::Stopped(f) => BlendAnswer::Refused(f),
         Chained::Ends(rows, counts, end) => {
             if table.len() / Row::NUMBERS < rows {
                 return BlendAnswer::TableTooShort(rows);

@@ -4,6 +4,7 @@ use blend::blend::RawBlend;
 use blend::blend::blend;
 use block::Row;
 use bytes::Endianness;
+use bytes::Fault;
 use bytes::PointerSize;
 use header::FileFormat;
 use header::Header;
@@ -91,14 +92,23 @@ fn lines(b: RawBlend, table: &[u64]) {
     text(b"\n");
 }
 
+// A refusal's number and, of 16 and 17, the offset that it carries.
+fn refused_line(f: Fault) {
+    number(b"refused ", f.refusal());
+    match f {
+        Fault::Refusal(_) => text(b"\n"),
+        _ => {
+            number(b" ", f.place() as u64);
+            text(b"\n");
+        }
+    }
+}
+
 fn list(file: &[u8]) {
     let mut table = [0u64; NUMBERS];
     match blend(file, &mut table) {
         BlendAnswer::Is(b) => lines(b, &table),
-        BlendAnswer::Refused(n) => {
-            number(b"refused ", n);
-            text(b"\n");
-        }
+        BlendAnswer::Refused(f) => refused_line(f),
         BlendAnswer::TableTooShort(rows) => {
             number(b"refused 7 ", rows as u64);
             text(b"\n");

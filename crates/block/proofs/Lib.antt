@@ -6,4 +6,5 @@ pub mod Tables
 pub mod Spelling
 pub mod Lossless
 pub mod Refusing
+pub mod Cutting
 pub mod Examples

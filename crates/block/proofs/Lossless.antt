@@ -1,7 +1,8 @@
 -- The papers and the outcomes of the answers lose nothing: two answers that are told alike are the same answer.
-use Rattle.bytes.proofs.Lossless.{at-one}
+use Rattle.bytes.proofs.Lossless.{at-one, whole-told}
 use Rattle.block.specs.declared.blend.BlockHeaderRead.{BlockHeaderRead}
-use Rattle.block.specs.BlockHeaders.{blockHeaderRead}
+use Rattle.block.specs.BlockHeaders.{blockHeaderRead, paperBlockHeader}
+use Rattle.block.specs.declared.BlockHeader.{BlockHeader}
 use Prim.Native.Nat.{ℕ}
 use mathlib.Core.List.{List, [], _∷_}
 use mathlib.Core.Path.{_≡_, refl, sym, _∙_, ap}
@@ -42,3 +43,11 @@ whole-block-header (BlockHeaderRead.Is x y) (BlockHeaderRead.Is x′ y′) h = c
 whole-block-header (BlockHeaderRead.Is x y) (BlockHeaderRead.Stopped x′) h = cc
 whole-block-header (BlockHeaderRead.Stopped x) (BlockHeaderRead.Is x′ y′) h = cc
 whole-block-header (BlockHeaderRead.Stopped x) (BlockHeaderRead.Stopped x′) h = cc
+
+one-block-header : (a b : BlockHeader) → (a .code ∷ a .size ∷ a .address ∷ a .index ∷ a .count ∷ []) ≡ (b .code ∷ b .size ∷ b .address ∷ b .index ∷ b .count ∷ []) → a ≡ b
+one-block-header a b e =
+    ap (λ (l : List ℕ). record { code = getD l 0 0; size = getD l 1 0; address = getD l 2 0; index = getD l 3 0; count = getD l 4 0 }) e
+
+pub paper-block-header : (a b : BlockHeaderRead) → paperBlockHeader a ≡ paperBlockHeader b → a ≡ b
+paper-block-header a b e =
+    whole-block-header a b (whole-told (λ h. h .code ∷ h .size ∷ h .address ∷ h .index ∷ h .count ∷ []) one-block-header (blockHeaderRead a) (blockHeaderRead b) e)

@@ -1,4 +1,4 @@
--- Why a block header is not read is a cut, or a refusal whose number is not 0.
+-- Why a block header is not read is a cut, or a refusal whose number is one of 1 and 3 to 6.
 use Prim.Native.Nat.{ℕ}
 use mathlib.Core.Bool.{Bool, true, false}
 use mathlib.Core.List.{List, [], _∷_}
@@ -22,7 +22,7 @@ tested-gives count n r w = w
 tested-gives {A} address n r w = go (eqb n 0)
   where
     go : (c : Bool) → Gives Counts {A = A} (elim c as (λ (d : Bool). Reader A) [ true ↦ refuse 3 | false ↦ r ])
-    go true = λ e. omega arith
+    go true = (omega arith, omega arith, λ e. omega arith)
     go false = w
 
 fields-give : (is : List Item) (b : BlockHeader) → Gives Counts (fields is b)

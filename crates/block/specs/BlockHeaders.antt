@@ -7,10 +7,11 @@ use lib.ListN.{length}
 use Rattle.bytes.specs.declared.Endianness.the-variants.{Big}
 use Rattle.bytes.specs.Helpers.{numberAt}
 use Rattle.bytes.specs.Number.{number}
+use Rattle.bytes.specs.Paper.{Paper}
 use Rattle.bytes.specs.Reader.{Reader, Outcome}
 use Rattle.bytes.specs.Reader.Reader.{done, refuse}
 use Rattle.bytes.specs.Reader.Outcome.{read, fault}
-use Rattle.bytes.specs.Refusals.{invalidMemoryAddress}
+use Rattle.bytes.specs.Refusals.{invalidMemoryAddress, told}
 use Rattle.header.specs.declared.Header.{Header}
 use Rattle.header.specs.Layout.{Field, Item, layout, blockHeaderLength}
 use Rattle.header.specs.Layout.Field.{size, address, index, count}
@@ -49,6 +50,10 @@ blockHeader h = number Big 4 (λ c. fields (layout h) (codeTold c))
 abbrev pub blockHeaderRead : BlockHeaderRead → Outcome BlockHeader
 blockHeaderRead (BlockHeaderRead.Is b c) = read b (c .at)
 blockHeaderRead (BlockHeaderRead.Stopped f) = fault f
+
+-- its paper: code, size, address, index, count
+abbrev pub paperBlockHeader : BlockHeaderRead → Paper
+paperBlockHeader r = told (λ b. b .code ∷ b .size ∷ b .address ∷ b .index ∷ b .count ∷ []) (blockHeaderRead r)
 
 -- A block header all of which stands at a place: its code, and the numbers of its layout one after another. Its tree finds the same, unless the address is 0
 -- (proofs/Layouts.antt, `header-there`).

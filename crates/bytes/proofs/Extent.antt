@@ -8,8 +8,8 @@ use borrow.Author.Tests.{leb-true, ltb-true}
 use lib.ListN.{length, take, drop}
 use Rattle.bytes.specs.declared.Fault.{Fault}
 use Rattle.bytes.specs.Helpers.{Placed}
-use Rattle.bytes.specs.Reader.{Reader, Outcome, run, room, zeroEnded, stands, toZero}
-use Rattle.bytes.specs.Reader.Reader.{done, refuse, stray, here, bytes, skip, string, begins}
+use Rattle.bytes.specs.Reader.{Reader, Outcome, run, room, endedBy, stands, before}
+use Rattle.bytes.specs.Reader.Reader.{done, refuse, stray, here, bytes, skip, until, begins}
 use Rattle.bytes.specs.Reader.Outcome.{read, fault}
 use Rattle.bytes.proofs.Marks.{stands-room}
 use Rattle.bytes.proofs.Same.{Finds}
@@ -33,11 +33,11 @@ within (bytes n k) s at =
     let o = run (k (take n (drop at s))) s (at + n) in
     way (Ends s at) (room s at n) o _ (λ e. on s at n o (leb-true _ _ e) (within (k (take n (drop at s))) s (at + n))) (λ e. tt)
 within (skip n r) s at = way (Ends s at) (room s at n) (run r s (at + n)) _ (λ e. on s at n (run r s (at + n)) (leb-true _ _ e) (within r s (at + n))) (λ e. tt)
-within (string k) s at =
-    let z = toZero (drop at s) in
+within (until end k) s at =
+    let z = before end (drop at s) in
     let o = run (k z) s (at + (z + 1)) in
-    way (Ends s at) (zeroEnded s at) o _
-    (λ e. let h : at + toZero (drop at s) < length s = ltb-true _ _ e in on s at (toZero (drop at s) + 1) o (omega arith) (within (k z) s (at + (z + 1)))) (λ e. tt)
+    way (Ends s at) (endedBy end s at) o _
+    (λ e. let h : at + before end (drop at s) < length s = ltb-true _ _ e in on s at (before end (drop at s) + 1) o (omega arith) (within (k z) s (at + (z + 1)))) (λ e. tt)
 within (begins m on′ off) s at =
     let o = run on′ s (at + length m) in
     way (Ends s at) (stands s at m) o (run off s at) (λ e. later s at m o e (within on′ s (at + length m))) (λ e. within off s at)
@@ -75,10 +75,10 @@ stop-within (bytes m k) s at n h l =
     by-way n (room s at m) (run (k (take m (drop at s))) s (at + m)) _ (λ e. let g : at + m ≤ length s = leb-true _ _ e in stop-within (k (take m (drop at s))) s (at + m) n (omega arith) l) (λ e. h)
 stop-within (skip m r) s at n h l =
     by-way n (room s at m) (run r s (at + m)) _ (λ e. let g : at + m ≤ length s = leb-true _ _ e in stop-within r s (at + m) n (omega arith) l) (λ e. h)
-stop-within (string k) s at n h l =
-    let z = toZero (drop at s) in
-    by-way n (zeroEnded s at) (run (k z) s (at + (z + 1))) _
-    (λ e. let g : at + toZero (drop at s) < length s = ltb-true _ _ e in stop-within (k z) s (at + (z + 1)) n (omega arith) l) (λ e. h)
+stop-within (until end k) s at n h l =
+    let z = before end (drop at s) in
+    by-way n (endedBy end s at) (run (k z) s (at + (z + 1))) _
+    (λ e. let g : at + before end (drop at s) < length s = ltb-true _ _ e in stop-within (k z) s (at + (z + 1)) n (omega arith) l) (λ e. h)
 stop-within (begins m on′ off) s at n h l =
     by-way n (stands s at m) (run on′ s (at + length m)) (run off s at)
     (λ e. let g : length m ≤ length s - at = stands-room s at m e in stop-within on′ s (at + length m) n (omega arith) l) (λ e. stop-within off s at n h l)

@@ -15,4 +15,6 @@ pub mod Marks
 pub mod Filling
 pub mod Written
 pub mod Lossless
+pub mod Former
+pub mod Cutting
 pub mod Examples

@@ -12,7 +12,7 @@ use Rattle.bytes.specs.declared.cursor.Begun.{Begun}
 use Rattle.bytes.specs.Cursor.{begun, partOf}
 use Rattle.bytes.specs.Number.{spelled, number, tag}
 use Rattle.bytes.specs.Reader.{Reader, Outcome, run, then, room, stands}
-use Rattle.bytes.specs.Reader.Reader.{done, bytes, skip, string, begins, stray}
+use Rattle.bytes.specs.Reader.Reader.{done, bytes, skip, until, begins, stray}
 use Rattle.bytes.specs.Reader.Outcome.{read, fault}
 use Rattle.bytes.proofs.Reading.{onwards}
 use Rattle.bytes.proofs.Tests.{held, failed}
@@ -37,14 +37,14 @@ module _ {A : Type 0} (s : List ℕ) (at : ℕ) where
     unfolding then
     skip-stops x h = stops (skip n (done tt)) (λ u. r) s at x (sym h)
 
-  module _ (k : ℕ → Reader A) where
-    pub string-on : (n next : ℕ) → read n next ≡ run (string done) s at → run (string k) s at ≡ run (k n) s next
+  module _ (c : ℕ) (k : ℕ → Reader A) where
+    pub until-on : (n next : ℕ) → read n next ≡ run (until c done) s at → run (until c k) s at ≡ run (k n) s next
     unfolding then
-    string-on n next h = goes-on (string done) k s at n next (sym h)
+    until-on n next h = goes-on (until c done) k s at n next (sym h)
 
-    pub string-stops : (x : Fault) → fault x ≡ run (string done) s at → run (string k) s at ≡ fault x
+    pub until-stops : (x : Fault) → fault x ≡ run (until c done) s at → run (until c k) s at ≡ fault x
     unfolding then
-    string-stops x h = stops (string done) k s at x (sym h)
+    until-stops x h = stops (until c done) k s at x (sym h)
 
 -- what a tag comes to, by its two tests
 tagged-by : {A : Type 0} → Bool → Bool → Outcome A → ℕ → Outcome A
@@ -83,6 +83,20 @@ module _ {A : Type 0} (s : List ℕ) (at : ℕ) (m : List ℕ) (r : Reader A) wh
       go true true e = cc
       go true false e = cc
       go false c e = cc
+
+  -- a mark by the two tests: whether there is room for it, and whether it stands
+  module _ (i : room s at (length m) ≡ true) where
+    pub tag-stands : stands s at m ≡ true → run (tag m r) s at ≡ run r s (at + length m)
+    unfolding tagged-by
+    tag-stands e = tag-is m r s at ∙ rw (i, e) refl
+
+    pub tag-wrong : stands s at m ≡ false → run (tag m r) s at ≡ fault (Mark at)
+    unfolding tagged-by
+    tag-wrong e = tag-is m r s at ∙ rw (i, e) refl
+
+  pub tag-cut : room s at (length m) ≡ false → run (tag m r) s at ≡ fault (Cut at)
+  unfolding tagged-by
+  tag-cut i = tag-is m r s at ∙ rw i refl
 
   -- the same with a value that goes on
   pub tag-then : {B : Type 0} (f : B → Reader A) (b : B) → f b ≡ r → run (tag m r) s at ≡ onwards (run (tag m (done b)) s at) (λ c next. run (f c) s next)

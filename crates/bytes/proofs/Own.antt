@@ -9,8 +9,8 @@ use lib.ListN.{length, getD, take, drop, length-drop}
 use lib.Seq.{getD-take, getD-drop, ext-getD, length-take-le}
 use Rattle.bytes.specs.declared.Fault.the-variants.{Cut}
 use Rattle.bytes.specs.Looks.{looks, Agree, Untouched}
-use Rattle.bytes.specs.Reader.{Reader, Outcome, run, room, zeroEnded, stands, toZero}
-use Rattle.bytes.specs.Reader.Reader.{done, refuse, stray, here, bytes, skip, string, begins}
+use Rattle.bytes.specs.Reader.{Reader, Outcome, run, room, endedBy, stands, before}
+use Rattle.bytes.specs.Reader.Reader.{done, refuse, stray, here, bytes, skip, until, begins}
 use Rattle.bytes.specs.Reader.Outcome.{read, fault}
 use Rattle.bytes.proofs.Same.{Finds, Anchored, anchored}
 use Rattle.bytes.proofs.Unaltered.{grows, agree-shifted, unaltered}
@@ -27,7 +27,7 @@ Sober (stray n) = Unit {0}
 Sober (here k) = (n : ℕ) → Sober (k n)
 Sober (bytes n k) = (b : List ℕ) → Sober (k b)
 Sober (skip n r) = Sober r
-Sober (string k) = (n : ℕ) → Sober (k n)
+Sober (until end k) = (n : ℕ) → Sober (k n)
 Sober {A} (begins m on off) = Sober on × Sober off × ((s : List ℕ) (at : ℕ) → Finds (run off s at) (λ (a : A) (next : ℕ). at + length m ≤ next))
 
 -- n bytes from `at` and from `to` are the same
@@ -101,10 +101,10 @@ module _ (s t : List ℕ) where
           (Inside at to (elim c as (λ (d : Bool). List (ℕ × ℕ)) [ true ↦ looks r s (at + n) | false ↦ [] ]))
       go true f = passed at to n (looks r s (at + n)) (run r s (at + n)) (grows r s (at + n)) f
       go false f = tt
-  spans {A} (string k) w at to = go (zeroEnded s at) (spans (k z) (w z) (at + (z + 1)) (to + (z + 1)))
+  spans {A} (until end k) w at to = go (endedBy end s at) (spans (k z) (w z) (at + (z + 1)) (to + (z + 1)))
     where
       z : ℕ
-      z = toZero (drop at s)
+      z = before end (drop at s)
 
       go : (c : Bool) → Finds (run (k z) s (at + (z + 1))) (Inside (at + (z + 1)) (to + (z + 1)) (looks (k z) s (at + (z + 1))))
           → Finds {A = A} (elim c as (λ (d : Bool). Outcome A) [ true ↦ run (k z) s (at + (z + 1)) | false ↦ fault (Cut at) ])

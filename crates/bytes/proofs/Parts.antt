@@ -54,7 +54,7 @@ pub part-long : (s : List ℕ) (at n : ℕ) → at + n ≤ length s → length (
 part-long s at n h = length-take-le n (drop at s) (omega (arith, length-drop at s))
 
 -- a part of a part
-inner : (k w n : ℕ) (l : List ℕ) → k + w ≤ n → take w (drop k (take n l)) ≡ take w (drop k l)
+pub inner : (k w n : ℕ) (l : List ℕ) → k + w ≤ n → take w (drop k (take n l)) ≡ take w (drop k l)
 inner zero w n l h = take-take w n l (omega arith)
 inner (suc k) w zero l h = absurd (omega arith)
 inner (suc k) w (suc n) [] h = refl

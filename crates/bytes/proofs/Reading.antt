@@ -13,8 +13,8 @@ use Rattle.bytes.specs.declared.Fault.the-variants.{Cut, Mark}
 use Rattle.bytes.specs.Cursor.{partOf}
 use Rattle.bytes.specs.Helpers.{numberAt}
 use Rattle.bytes.specs.Number.{spelled, number, tag}
-use Rattle.bytes.specs.Reader.{Reader, Outcome, run, then, room, zeroEnded, stands, toZero}
-use Rattle.bytes.specs.Reader.Reader.{done, refuse, stray, here, bytes, skip, string, begins}
+use Rattle.bytes.specs.Reader.{Reader, Outcome, run, then, room, endedBy, stands, before}
+use Rattle.bytes.specs.Reader.Reader.{done, refuse, stray, here, bytes, skip, until, begins}
 use Rattle.bytes.specs.Reader.Outcome.{read, fault}
 use Rattle.bytes.proofs.Tests.{held, failed}
 
@@ -36,7 +36,7 @@ run-then (stray n) f s at = refl
 run-then (here k) f s at = run-then (k at) f s at
 run-then (bytes n k) f s at = by-test (room s at n) _ _ _ _ _ (run-then (k (take n (drop at s))) f s (at + n)) refl
 run-then (skip n r) f s at = by-test (room s at n) _ _ _ _ _ (run-then r f s (at + n)) refl
-run-then (string k) f s at = by-test (zeroEnded s at) _ _ _ _ _ (run-then (k (toZero (drop at s))) f s (at + (toZero (drop at s) + 1))) refl
+run-then (until end k) f s at = by-test (endedBy end s at) _ _ _ _ _ (run-then (k (before end (drop at s))) f s (at + (before end (drop at s) + 1))) refl
 run-then (begins m on off) f s at = by-test (stands s at m) _ _ _ _ _ (run-then on f s (at + length m)) (run-then off f s at)
 
 -- whether n bytes are there, asked from the front and from the place on
@@ -68,9 +68,9 @@ pub skip-out : {A : Type 0} (n : ℕ) (r : Reader A) (s : List ℕ) (at : ℕ) �
 unfolding run
 skip-out n r s at h = failed _ _ (lt-leb _ _ h)
 
-pub string-out : {A : Type 0} (k : ℕ → Reader A) (s : List ℕ) (at : ℕ) → length s ≤ at + toZero (drop at s) → run (string k) s at ≡ fault (Cut at)
+pub until-out : {A : Type 0} (end : ℕ) (k : ℕ → Reader A) (s : List ℕ) (at : ℕ) → length s ≤ at + before end (drop at s) → run (until end k) s at ≡ fault (Cut at)
 unfolding run
-string-out k s at h = failed _ _ (le-ltb _ _ h)
+until-out end k s at h = failed _ _ (le-ltb _ _ h)
 
 pub begins-in : {A : Type 0} (m : List ℕ) (on off : Reader A) (s : List ℕ) (at : ℕ) → stands s at m ≡ true → run (begins m on off) s at ≡ run on s (at + length m)
 unfolding run
@@ -107,20 +107,20 @@ begun-out m s at t = sym (failed _ _ t)
 pub to-the-end : (s : List ℕ) (at : ℕ) → take (length s - at) (drop at s) ≡ drop at s
 to-the-end s at = take-all (length s - at) (drop at s) (omega (arith, length-drop at s))
 
--- a string that ends at the first zero, or has none
-module _ (s : List ℕ) (at end : ℕ) (e : end ≡ at + toZero (drop at s)) where
-  pub counted-in : end < length s → read (end - at) (end + 1) ≡ run (string done) s at
+-- a run that ends at the first c, or has none
+module _ (c : ℕ) (s : List ℕ) (at end : ℕ) (e : end ≡ at + before c (drop at s)) where
+  pub counted-in : end < length s → read (end - at) (end + 1) ≡ run (until c done) s at
   unfolding run
   counted-in h =
-      let n : end - at ≡ toZero (drop at s) = omega arith in
-      let k : end + 1 ≡ at + (toZero (drop at s) + 1) = omega arith in
+      let n : end - at ≡ before c (drop at s) = omega arith in
+      let k : end + 1 ≡ at + (before c (drop at s) + 1) = omega arith in
       rw (n, k) (sym (held _ _ (lt-ltb _ _ (rw e at h))))
 
-  pub counted-out : length s ≤ end → _≡_ {A = Outcome ℕ} (fault (Cut at)) (run (string done) s at)
-  counted-out h = sym (string-out _ _ _ (rw e at h))
+  pub counted-out : length s ≤ end → _≡_ {A = Outcome ℕ} (fault (Cut at)) (run (until c done) s at)
+  counted-out h = sym (until-out _ _ _ _ (rw e at h))
 
-pub counted-past : (s : List ℕ) (at : ℕ) → length s ≤ at → _≡_ {A = Outcome ℕ} (fault (Cut at)) (run (string done) s at)
-counted-past s at h = sym (string-out _ _ _ (omega arith))
+pub counted-past : (c : ℕ) (s : List ℕ) (at : ℕ) → length s ≤ at → _≡_ {A = Outcome ℕ} (fault (Cut at)) (run (until c done) s at)
+counted-past c s at h = sym (until-out _ _ _ _ (omega arith))
 
 module _ (s : List ℕ) (at n : ℕ) where
   pub part-in : at + n ≤ length s → take (at + n - at) (drop at s) ≡ partOf s at n

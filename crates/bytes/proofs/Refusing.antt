@@ -2,17 +2,15 @@
 use Prim.Native.Nat.{ℕ, zero, suc, _+_, _-_}
 use mathlib.Core.Bool.{Bool, true, false}
 use mathlib.Core.List.{List, []}
-use mathlib.Core.Path.{_≡_, refl, subst}
+use mathlib.Core.Path.{_≡_, subst}
 use native.Mathlib.Omega.{arith}
 use lib.ListN.{length, take, drop}
 use Rattle.bytes.specs.declared.Fault.{Fault}
 use Rattle.bytes.specs.declared.Fault.the-variants.{Cut, Mark, Refusal}
 use Rattle.bytes.specs.Number.{tag}
-use Rattle.bytes.specs.Paper.Paper.{refuses}
-use Rattle.bytes.specs.Reader.{Reader, Outcome, run, then, times, same, room, zeroEnded, stands, toZero}
-use Rattle.bytes.specs.Reader.Reader.{done, refuse, stray, here, bytes, skip, string, begins}
+use Rattle.bytes.specs.Reader.{Reader, Outcome, run, then, times, same, room, endedBy, stands, before}
+use Rattle.bytes.specs.Reader.Reader.{done, refuse, stray, here, bytes, skip, until, begins}
 use Rattle.bytes.specs.Reader.Outcome.{read, fault}
-use Rattle.bytes.specs.Refusals.{paperFault}
 
 module _ (P : ℕ → Type 0) where
   abbrev pub Gives : {A : Type 0} → Reader A → Type 0
@@ -22,7 +20,7 @@ module _ (P : ℕ → Type 0) where
   Gives (here k) = (at : ℕ) → Gives (k at)
   Gives (bytes n k) = (b : List ℕ) → Gives (k b)
   Gives (skip n r) = Gives r
-  Gives (string k) = (n : ℕ) → Gives (k n)
+  Gives (until end k) = (n : ℕ) → Gives (k n)
   Gives (begins m on off) = Gives on × Gives off
 
   abbrev Given : {A : Type 0} → Outcome A → Type 0
@@ -64,10 +62,10 @@ module _ (P : ℕ → Type 0) where
       go : (c : Bool) → Given (run r s (at + m)) → Given {A = A} (elim c as (λ (d : Bool). Outcome A) [ true ↦ run r s (at + m) | false ↦ fault (Cut at) ])
       go true f = f
       go false f = cut at
-  given {A} (string k) w s at = go (zeroEnded s at) (given (k (toZero (drop at s))) (w (toZero (drop at s))) s (at + (toZero (drop at s) + 1)))
+  given {A} (until end k) w s at = go (endedBy end s at) (given (k (before end (drop at s))) (w (before end (drop at s))) s (at + (before end (drop at s) + 1)))
     where
-      go : (c : Bool) → Given (run (k (toZero (drop at s))) s (at + (toZero (drop at s) + 1)))
-          → Given {A = A} (elim c as (λ (d : Bool). Outcome A) [ true ↦ run (k (toZero (drop at s))) s (at + (toZero (drop at s) + 1)) | false ↦ fault (Cut at) ])
+      go : (c : Bool) → Given (run (k (before end (drop at s))) s (at + (before end (drop at s) + 1)))
+          → Given {A = A} (elim c as (λ (d : Bool). Outcome A) [ true ↦ run (k (before end (drop at s))) s (at + (before end (drop at s) + 1)) | false ↦ fault (Cut at) ])
       go true f = f
       go false f = cut at
   given {A} (begins m on off) w s at = go (stands s at m) (given on (w .0) s (at + length m)) (given off (w .1) s at)
@@ -86,7 +84,7 @@ module _ (P : ℕ → Type 0) where
   gives-then (here k) f w g = λ at. gives-then (k at) f (w at) g
   gives-then (bytes n k) f w g = λ b. gives-then (k b) f (w b) g
   gives-then (skip n r) f w g = gives-then r f w g
-  gives-then (string k) f w g = λ n. gives-then (k n) f (w n) g
+  gives-then (until end k) f w g = λ n. gives-then (k n) f (w n) g
   gives-then (begins m on off) f w g = (gives-then on f (w .0) g, gives-then off f (w .1) g)
 
   pub gives-times : {A : Type 0} (n : ℕ) (r : Reader A) → Gives r → Gives (times n r)
@@ -100,14 +98,3 @@ module _ (P : ℕ → Type 0) where
       go : (c : Bool) → Gives {A = A} (elim c as (λ (d : Bool). Reader A) [ true ↦ r | false ↦ stray (length m) ])
       go true = w
       go false = tt
-
--- A fault on paper is a refusal that carries nothing, with this number.
-abbrev pub numberOf : Fault → ℕ
-numberOf (Cut at) = 2
-numberOf (Mark at) = 2
-numberOf (Refusal n) = n
-
-pub fault-told : (x : Fault) → paperFault x ≡ refuses (numberOf x) []
-fault-told (Cut at) = refl
-fault-told (Mark at) = refl
-fault-told (Refusal n) = refl

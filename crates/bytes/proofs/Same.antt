@@ -7,8 +7,8 @@ use native.Mathlib.Omega.{arith}
 use lib.ListN.{length, take, drop}
 use Rattle.bytes.specs.declared.Fault.{Fault}
 use Rattle.bytes.specs.declared.Fault.the-variants.{Cut}
-use Rattle.bytes.specs.Reader.{Reader, Outcome, run, room, zeroEnded, stands, toZero}
-use Rattle.bytes.specs.Reader.Reader.{done, refuse, stray, here, bytes, skip, string, begins}
+use Rattle.bytes.specs.Reader.{Reader, Outcome, run, room, endedBy, stands, before}
+use Rattle.bytes.specs.Reader.Reader.{done, refuse, stray, here, bytes, skip, until, begins}
 use Rattle.bytes.specs.Reader.Outcome.{read, fault}
 use Rattle.bytes.proofs.Tests.{held, failed}
 
@@ -20,9 +20,9 @@ Same (stray n) s at t to = Unit {0}
 Same (here k) s at t to = (to ≡ at) × Same (k at) s at t to
 Same (bytes n k) s at t to = (room t to n ≡ room s at n) × (take n (drop to t) ≡ take n (drop at s)) × Same (k (take n (drop at s))) s (at + n) t (to + n)
 Same (skip n r) s at t to = (room t to n ≡ room s at n) × Same r s (at + n) t (to + n)
-Same (string k) s at t to =
-    (zeroEnded t to ≡ zeroEnded s at) × (toZero (drop to t) ≡ toZero (drop at s))
-    × Same (k (toZero (drop at s))) s (at + (toZero (drop at s) + 1)) t (to + (toZero (drop at s) + 1))
+Same (until end k) s at t to =
+    (endedBy end t to ≡ endedBy end s at) × (before end (drop to t) ≡ before end (drop at s))
+    × Same (k (before end (drop at s))) s (at + (before end (drop at s) + 1)) t (to + (before end (drop at s) + 1))
 Same (begins m on off) s at t to =
     (stands t to m ≡ stands s at m) × (elim (stands s at m) as (λ (b : Bool). Type 0) [ true ↦ Same on s (at + length m) t (to + length m) | false ↦ Same off s at t to ])
 
@@ -66,9 +66,9 @@ again (bytes n k) s at t to h =
     (again (k b) s (at + n) t (to + n) (h .2))
 again (skip n r) s at t to h =
     one (skip n r) r (room s at n) at to n t (run r s (at + n)) (Cut at) (λ e. held _ _ (h .0 ∙ e)) (again r s (at + n) t (to + n) (h .1))
-again (string k) s at t to h =
-    let z = toZero (drop at s) in
-    one (string k) (k z) (zeroEnded s at) at to (z + 1) t (run (k z) s (at + (z + 1))) (Cut at)
+again (until end k) s at t to h =
+    let z = before end (drop at s) in
+    one (until end k) (k z) (endedBy end s at) at to (z + 1) t (run (k z) s (at + (z + 1))) (Cut at)
     (λ e. held _ _ (h .0 ∙ e) ∙ rw (h .1) refl)
     (again (k z) s (at + (z + 1)) t (to + (z + 1)) (h .2))
 again {A} (begins g on off) s at t to h = either (stands s at g) (h .0) (h .1) (again on s (at + length g) t (to + length g)) (again off s at t to)
@@ -88,7 +88,7 @@ Anchored E (stray n) = Unit {0}
 Anchored E (here k) = E × ((n : ℕ) → Anchored E (k n))
 Anchored E (bytes n k) = (b : List ℕ) → Anchored E (k b)
 Anchored E (skip n r) = Anchored E r
-Anchored E (string k) = (n : ℕ) → Anchored E (k n)
+Anchored E (until end k) = (n : ℕ) → Anchored E (k n)
 Anchored E (begins m on off) = Anchored E on × Anchored E off
 
 -- any tree is there already where the place is the same
@@ -99,5 +99,5 @@ anchored (stray n) = tt
 anchored (here k) = (tt, λ n. anchored (k n))
 anchored (bytes n k) = λ b. anchored (k b)
 anchored (skip n r) = anchored r
-anchored (string k) = λ n. anchored (k n)
+anchored (until end k) = λ n. anchored (k n)
 anchored (begins m on off) = (anchored on, anchored off)

@@ -12,8 +12,8 @@ use native.Mathlib.Numerals.{add-one}
 use Rattle.bytes.specs.declared.Fault.{Fault}
 use Rattle.bytes.specs.declared.Fault.the-variants.{Cut}
 use Rattle.bytes.specs.Looks.{looks, Agree}
-use Rattle.bytes.specs.Reader.{Reader, Outcome, run, room, zeroEnded, stands, same, nearer, toZero}
-use Rattle.bytes.specs.Reader.Reader.{done, refuse, stray, here, bytes, skip, string, begins}
+use Rattle.bytes.specs.Reader.{Reader, Outcome, run, room, endedBy, stands, same, nearer, before}
+use Rattle.bytes.specs.Reader.Reader.{done, refuse, stray, here, bytes, skip, until, begins}
 use Rattle.bytes.specs.Reader.Outcome.{read, fault}
 use Rattle.bytes.proofs.Same.{Same, Finds, Again, again, Anchored}
 
@@ -43,40 +43,40 @@ grows (bytes n k) s at =
     let o = run (k (take n (drop at s))) s (at + n) in
     way (λ a next. at ≤ next) (room s at n) o (fault (Cut at)) (λ e. further at n o (grows (k (take n (drop at s))) s (at + n))) (λ e. tt)
 grows (skip n r) s at = way (λ a next. at ≤ next) (room s at n) (run r s (at + n)) (fault (Cut at)) (λ e. further at n (run r s (at + n)) (grows r s (at + n))) (λ e. tt)
-grows (string k) s at =
-    let z = toZero (drop at s) in
+grows (until end k) s at =
+    let z = before end (drop at s) in
     let o = run (k z) s (at + (z + 1)) in
-    way (λ a next. at ≤ next) (zeroEnded s at) o (fault (Cut at)) (λ e. further at (z + 1) o (grows (k z) s (at + (z + 1)))) (λ e. tt)
+    way (λ a next. at ≤ next) (endedBy end s at) o (fault (Cut at)) (λ e. further at (z + 1) o (grows (k z) s (at + (z + 1)))) (λ e. tt)
 grows (begins m on off) s at =
     let o = run on s (at + length m) in
     way (λ a next. at ≤ next) (stands s at m) o (run off s at) (λ e. further at (length m) o (grows on s (at + length m))) (λ e. grows off s at)
 
--- a run that agrees with another up to its first zero has its first zero there too
-zero-there : (l l′ : List ℕ) → toZero l < length l → take (suc (toZero l)) l′ ≡ take (suc (toZero l)) l → toZero l′ ≡ toZero l
-zero-there [] l′ h e = absurd (omega arith)
-zero-there (b ∷ bs) [] h e = absurd (omega (arith, ap length e))
-zero-there (b ∷ bs) (c ∷ cs) h e = go (eqb b 0) refl (zero-there bs cs)
+-- a run that agrees with another up to its first byte of a kind has its first there too
+end-there : (end : ℕ) (l l′ : List ℕ) → before end l < length l → take (suc (before end l)) l′ ≡ take (suc (before end l)) l → before end l′ ≡ before end l
+end-there end [] l′ h e = absurd (omega arith)
+end-there end (b ∷ bs) [] h e = absurd (omega (arith, ap length e))
+end-there end (b ∷ bs) (c ∷ cs) h e = go (eqb b end) refl (end-there end bs cs)
   where
     first : c ≡ b
     first = cc
 
-    go : (z : Bool) → eqb b 0 ≡ z → (toZero bs < length bs → take (suc (toZero bs)) cs ≡ take (suc (toZero bs)) bs → toZero cs ≡ toZero bs)
-        → nearer (eqb c 0) (toZero cs) ≡ nearer (eqb b 0) (toZero bs)
+    go : (z : Bool) → eqb b end ≡ z → (before end bs < length bs → take (suc (before end bs)) cs ≡ take (suc (before end bs)) bs → before end cs ≡ before end bs)
+        → nearer (eqb c end) (before end cs) ≡ nearer (eqb b end) (before end bs)
     go true q f = rw (first, q) refl
     go false q f =
-        let h′ : suc (toZero bs) < suc (length bs) = rw q at h in
-        let e′ : (c ∷ take (suc (toZero bs)) cs) ≡ (b ∷ take (suc (toZero bs)) bs) = rw q at e in
+        let h′ : suc (before end bs) < suc (length bs) = rw q at h in
+        let e′ : (c ∷ take (suc (before end bs)) cs) ≡ (b ∷ take (suc (before end bs)) bs) = rw q at e in
         rw (first, q) (ap suc (f (omega arith) (cc)))
 
-string-same : (s : List ℕ) (at : ℕ) (t : List ℕ) (to : ℕ) → zeroEnded s at ≡ true → to + (toZero (drop at s) + 1) ≤ length t
-    → take (toZero (drop at s) + 1) (drop to t) ≡ take (toZero (drop at s) + 1) (drop at s) → (toZero (drop to t) ≡ toZero (drop at s)) × (zeroEnded t to ≡ true)
-string-same s at t to e l w =
-    let h : at + toZero (drop at s) < length s = ltb-true _ _ e in
-    let z : toZero (drop to t) ≡ toZero (drop at s) = zero-there (drop at s) (drop to t) (rw length-drop (omega arith)) (rw add-one at w) in
-    let g : to + toZero (drop at s) < length t = omega arith in
+pub until-same : (end : ℕ) (s : List ℕ) (at : ℕ) (t : List ℕ) (to : ℕ) → endedBy end s at ≡ true → to + (before end (drop at s) + 1) ≤ length t
+    → take (before end (drop at s) + 1) (drop to t) ≡ take (before end (drop at s) + 1) (drop at s) → (before end (drop to t) ≡ before end (drop at s)) × (endedBy end t to ≡ true)
+until-same end s at t to e l w =
+    let h : at + before end (drop at s) < length s = ltb-true _ _ e in
+    let z : before end (drop to t) ≡ before end (drop at s) = end-there end (drop at s) (drop to t) (rw length-drop (omega arith)) (rw add-one at w) in
+    let g : to + before end (drop at s) < length t = omega arith in
     (z, rw z (lt-ltb _ _ g))
 
-mapped : {A : Type 0} (P Q : A → ℕ → Type 0) (o : Outcome A) → ((a : A) (next : ℕ) → P a next → Q a next) → Finds o P → Finds o Q
+pub mapped : {A : Type 0} (P Q : A → ℕ → Type 0) (o : Outcome A) → ((a : A) (next : ℕ) → P a next → Q a next) → Finds o P → Finds o Q
 mapped P Q (read a next) f p = f a next p
 mapped P Q (fault x) f p = tt
 
@@ -116,12 +116,12 @@ module _ (s t : List ℕ) where
       (λ e l q. (le-leb _ _ l ∙ sym e, w .0 to (omega arith), q))
   look-same E (skip n r) v at to c w =
       stepwise (skip n r) r (room s at n) at to n (Cut at) w (look-same E r v (at + n) (to + n) (λ x. ap (λ (m : ℕ). m + n) (c x))) (λ e l q. (le-leb _ _ l ∙ sym e, q))
-  look-same E (string k) v at to c w =
-      let z = toZero (drop at s) in
-      stepwise (string k) (k z) (zeroEnded s at) at to (z + 1) (Cut at) (w .1)
+  look-same E (until end k) v at to c w =
+      let z = before end (drop at s) in
+      stepwise (until end k) (k z) (endedBy end s at) at to (z + 1) (Cut at) (w .1)
       (look-same E (k z) (v z) (at + (z + 1)) (to + (z + 1)) (λ x. ap (λ (m : ℕ). m + (z + 1)) (c x)))
       (λ e l q.
-      let y = string-same s at t to e l (w .0 to (omega arith)) in
+      let y = until-same end s at t to e l (w .0 to (omega arith)) in
       (y .1 ∙ sym e, y .0, q))
   look-same {A} E (begins m on off) v at to c w =
       mapped {A = A} (λ a next. (k : ℕ) → next ≡ at + k → to + k ≤ length t → Left (stands s at m)) (Shows (begins m on off) at to)

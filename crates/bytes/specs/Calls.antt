@@ -2,7 +2,7 @@
 -- other parameters for themselves, and r for the answer.
 use Prim.Native.Nat.{ℕ}
 use mathlib.Core.Bool.{Bool, true, false}
-use mathlib.Core.List.{List, []}
+use mathlib.Core.List.{List}
 use mathlib.Core.Path.{_≡_}
 use Rattle.bytes.specs.declared.Endianness.{Endianness}
 use Rattle.bytes.specs.declared.PointerSize.{PointerSize}
@@ -16,16 +16,18 @@ use Rattle.bytes.specs.declared.cursor.Begun.{Begun}
 use Rattle.bytes.specs.Cursor.{widthOf, numbered, moved, counted, begun, partOf}
 use Rattle.bytes.specs.Number.{number, tag}
 use Rattle.bytes.specs.PointerSize.{pointerBytes}
-use Rattle.bytes.specs.Paper.Paper.{refuses}
-use Rattle.bytes.specs.Refusals.{paperFault}
-use Rattle.bytes.specs.Reader.{run, before, stands}
-use Rattle.bytes.specs.Reader.Reader.{done, bytes, skip, string, begins}
+use Rattle.bytes.specs.Refusals.{refusalOf, placeOf}
+use Rattle.bytes.specs.Reader.{run, string, before, stands}
+use Rattle.bytes.specs.Reader.Reader.{done, bytes, skip, until, begins}
 
 abbrev pub «PointerSize::bytes_num» : (self : PointerSize) → ℕ → Type 0
 «PointerSize::bytes_num» self r = r ≡ pointerBytes self
 
 abbrev pub «Fault::refusal» : (self : Fault) → ℕ → Type 0
-«Fault::refusal» self r = refuses r [] ≡ paperFault self
+«Fault::refusal» self r = r ≡ refusalOf self
+
+abbrev pub «Fault::place» : (self : Fault) → ℕ → Type 0
+«Fault::place» self r = r ≡ placeOf self
 
 abbrev pub «cursor::Width::bytes_num» : (self : Width) → ℕ → Type 0
 «cursor::Width::bytes_num» self r = r ≡ widthOf self
@@ -56,6 +58,9 @@ abbrev pub «cursor::Cursor::mark» : (self : Cursor) (s m : List ℕ) → Moved
 
 abbrev pub «cursor::Cursor::begins» : (self : Cursor) (s m : List ℕ) → Begun → Type 0
 «cursor::Cursor::begins» self s m r = begun r ≡ run (begins m (done true) (done false)) s (self .at)
+
+abbrev pub «cursor::Cursor::until» : (self : Cursor) (s : List ℕ) (c : ℕ) → Counted → Type 0
+«cursor::Cursor::until» self s c r = counted r ≡ run (until c done) s (self .at)
 
 abbrev pub «cursor::Cursor::string» : (self : Cursor) (s : List ℕ) → Counted → Type 0
 «cursor::Cursor::string» self s r = counted r ≡ run (string done) s (self .at)

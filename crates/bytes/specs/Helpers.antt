@@ -1,4 +1,4 @@
--- What helpers of the code ensure. No rule uses it.
+-- What helpers of the code ensure. No rule uses it but `numberAt`, which `headerIn` of crates/block goes by.
 use Prim.Native.Nat.{ℕ, zero, suc, _+_, _≤_}
 use mathlib.Core.List.{List, [], _∷_}
 use lib.ListN.{take, drop, set}

@@ -5,6 +5,7 @@ pub mod Number
 pub mod Looks
 pub mod Paper
 pub mod Refusals
+pub mod Former
 pub mod Tables
 pub mod PointerSize
 pub mod Cursor

@@ -4,8 +4,8 @@ use mathlib.Core.Bool.{Bool, true, false}
 use mathlib.Core.List.{List, [], _∷_}
 use mathlib.Core.Path.{_≡_}
 use lib.ListN.{length, getD, take, drop}
-use Rattle.bytes.specs.Reader.{Reader, room, zeroEnded, stands, toZero}
-use Rattle.bytes.specs.Reader.Reader.{done, refuse, stray, here, bytes, skip, string, begins}
+use Rattle.bytes.specs.Reader.{Reader, room, before, endedBy, stands}
+use Rattle.bytes.specs.Reader.Reader.{done, refuse, stray, here, bytes, skip, until, begins}
 
 -- the spans that a tree looks at: where each starts and how long it is. Of what it skips only the length matters
 abbrev pub looks : {A : Type 0} → Reader A → List ℕ → ℕ → List (ℕ × ℕ)
@@ -15,9 +15,9 @@ looks (stray n) s at = []
 looks (here k) s at = looks (k at) s at
 looks (bytes n k) s at = (at, n) ∷ (elim (room s at n) as (λ (b : Bool). List (ℕ × ℕ)) [ true ↦ looks (k (take n (drop at s))) s (at + n) | false ↦ [] ])
 looks (skip n r) s at = elim (room s at n) [ true ↦ looks r s (at + n) | false ↦ [] ]
-looks (string k) s at =
-    (at, toZero (drop at s) + 1)
-    ∷ (elim (zeroEnded s at) as (λ (b : Bool). List (ℕ × ℕ)) [ true ↦ looks (k (toZero (drop at s))) s (at + (toZero (drop at s) + 1)) | false ↦ [] ])
+looks (until c k) s at =
+    (at, before c (drop at s) + 1)
+    ∷ (elim (endedBy c s at) as (λ (b : Bool). List (ℕ × ℕ)) [ true ↦ looks (k (before c (drop at s))) s (at + (before c (drop at s) + 1)) | false ↦ [] ])
 looks (begins m on off) s at =
     (at, length m) ∷ (elim (stands s at m) as (λ (b : Bool). List (ℕ × ℕ)) [ true ↦ looks on s (at + length m) | false ↦ looks off s at ])
 

@@ -15,7 +15,7 @@ pub data Reader (A : Type 0) : Type 0 where
   here : (ℕ → Reader A) → Reader A  -- the place
   bytes : (n : ℕ) → (List ℕ → Reader A) → Reader A  -- the next n bytes
   skip : (n : ℕ) → Reader A → Reader A  -- the next n bytes, whatever they hold
-  string : (ℕ → Reader A) → Reader A  -- the bytes up to the next zero, and the zero: how many stand before it
+  until : (c : ℕ) → (ℕ → Reader A) → Reader A  -- the bytes up to the next c, and that c: how many stand before it
   begins : List ℕ → Reader A → Reader A → Reader A  -- past these bytes where they are next; where they are not, from here
 
 -- What was read and the place after it; or why reading stopped, and where.
@@ -32,9 +32,6 @@ abbrev pub before : ℕ → List ℕ → ℕ
 before c [] = 0
 before c (b ∷ bs) = nearer (eqb b c) (before c bs)
 
-abbrev pub toZero : List ℕ → ℕ
-toZero s = before 0 s
-
 -- whether two runs of bytes are the same
 abbrev pub same : List ℕ → List ℕ → Bool
 same [] [] = true
@@ -46,9 +43,9 @@ same (x ∷ xs) (y ∷ ys) = eqb x y && same xs ys
 abbrev pub room : List ℕ → ℕ → ℕ → Bool
 room s at n = leb (at + n) (length s)
 
--- whether s has a zero at `at` or after it
-abbrev pub zeroEnded : List ℕ → ℕ → Bool
-zeroEnded s at = ltb (at + toZero (drop at s)) (length s)
+-- whether s has a c at `at` or after it
+abbrev pub endedBy : ℕ → List ℕ → ℕ → Bool
+endedBy c s at = ltb (at + before c (drop at s)) (length s)
 
 -- whether the bytes m stand at `at`
 abbrev pub stands : List ℕ → ℕ → List ℕ → Bool
@@ -62,8 +59,12 @@ run (stray n) s at = fault (Mark (at - n))
 run (here k) s at = run (k at) s at
 run (bytes n k) s at = elim (room s at n) [ true ↦ run (k (take n (drop at s))) s (at + n) | false ↦ fault (Cut at) ]
 run (skip n r) s at = elim (room s at n) [ true ↦ run r s (at + n) | false ↦ fault (Cut at) ]
-run (string k) s at = elim (zeroEnded s at) [ true ↦ run (k (toZero (drop at s))) s (at + (toZero (drop at s) + 1)) | false ↦ fault (Cut at) ]
+run (until c k) s at = elim (endedBy c s at) [ true ↦ run (k (before c (drop at s))) s (at + (before c (drop at s) + 1)) | false ↦ fault (Cut at) ]
 run (begins m on off) s at = elim (stands s at m) [ true ↦ run on s (at + length m) | false ↦ run off s at ]
+
+-- a zero-ended string
+abbrev pub string : {A : Type 0} → (ℕ → Reader A) → Reader A
+string k = until 0 k
 
 -- one tree, and then another that may go by what the first found
 unfoldable pub then : {A B : Type 0} → Reader A → (A → Reader B) → Reader B
@@ -73,7 +74,7 @@ then (stray n) f = stray n
 then (here k) f = here (λ at. then (k at) f)
 then (bytes n k) f = bytes n (λ b. then (k b) f)
 then (skip n r) f = skip n (then r f)
-then (string k) f = string (λ n. then (k n) f)
+then (until c k) f = until c (λ n. then (k n) f)
 then (begins m on off) f = begins m (then on f) (then off f)
 
 -- n times the same tree

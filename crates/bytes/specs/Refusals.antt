@@ -1,17 +1,17 @@
 -- Refusal numbers: the number of each refusal, and what it carries.
 use Prim.Native.Nat.{ℕ}
-use mathlib.Core.List.{[], _∷_}
+use mathlib.Core.List.{List, [], _∷_, _++_}
 use Rattle.bytes.specs.declared.Fault.{Fault}
 use Rattle.bytes.specs.declared.Fault.the-variants.{Cut, Mark, Refusal}
 use Rattle.bytes.specs.Paper.{Paper}
-use Rattle.bytes.specs.Paper.Paper.{refuses}
+use Rattle.bytes.specs.Paper.Paper.{accepts, refuses}
+use Rattle.bytes.specs.Reader.{Outcome}
+use Rattle.bytes.specs.Reader.Outcome.{read, fault}
 
--- Those that a reading tree or a chain gives are numbers here: a tree says `refuse unknownBlockCode`, and `paperFault` tells it.
+-- Those that a reading tree or a chain gives are numbers here: a tree says `refuse unknownBlockCode`, and `paperFault` tells it. Of document 01's 2, malformed, there are two
+-- since request 3 of document 02: 16, cut short, and 17, wrong mark.
 abbrev pub compressedFileNotSupported : ℕ
 compressedFileNotSupported = 1
-
-abbrev pub malformed : Paper
-malformed = refuses 2 []
 
 abbrev pub invalidMemoryAddress : ℕ
 invalidMemoryAddress = 3
@@ -56,9 +56,34 @@ indexTooShort buckets rows = refuses 14 (buckets ∷ rows ∷ [])
 abbrev pub nameNotFullyRead : Paper
 nameNotFullyRead = refuses 15 []
 
--- A fault of a reading tree on paper. A cut and a wrong mark are both malformed, and their places are left out: this loses what it is to lose,
--- so only what is told of a public call goes by it.
+-- fewer bytes remain than the read wants (a string with no ending zero included), and enough bytes remain and differ
+abbrev pub cutShort : ℕ
+cutShort = 16
+
+abbrev pub wrongMark : ℕ
+wrongMark = 17
+
+-- The number of a fault's refusal, and what it carries: a cut and a wrong mark the offset of the failed read's first byte, the others nothing.
+abbrev pub refusalOf : Fault → ℕ
+refusalOf (Cut at) = cutShort
+refusalOf (Mark at) = wrongMark
+refusalOf (Refusal n) = n
+
+abbrev pub carriedBy : Fault → List ℕ
+carriedBy (Cut at) = at ∷ []
+carriedBy (Mark at) = at ∷ []
+carriedBy (Refusal n) = []
+
+-- the place of a fault, 0 where it has none
+abbrev pub placeOf : Fault → ℕ
+placeOf (Cut at) = at
+placeOf (Mark at) = at
+placeOf (Refusal n) = 0
+
+-- A fault of a reading tree on paper, and what a tree found, with its numbers and the place after it. Nothing is lost (proofs/Lossless.antt).
 abbrev pub paperFault : Fault → Paper
-paperFault (Cut at) = malformed
-paperFault (Mark at) = malformed
-paperFault (Refusal n) = refuses n []
+paperFault f = refuses (refusalOf f) (carriedBy f)
+
+abbrev pub told : {A : Type 0} → (A → List ℕ) → Outcome A → Paper
+told numbers (read a next) = accepts 0 (numbers a ++ (next ∷ []))
+told numbers (fault f) = paperFault f

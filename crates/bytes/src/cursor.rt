@@ -49,7 +49,7 @@ pub enum Moved {
     Stopped(Fault),
 }
 
-/// How many bytes stand before a zero, and the place after the zero.
+/// How many bytes stand before the one that ends a run, and the place after that one.
 pub enum Counted {
     Is(usize, Cursor),
     Stopped(Fault),
@@ -204,14 +204,13 @@ impl Cursor {
     {
         let at = self.at;
         let n = m.len();
-        if has(s, at, n) {
-            if stands_at(s, at, m) {
-                Moved::To(Cursor { at: at + n })
-            } else {
-                Moved::Stopped(Fault::Mark(at))
-            }
+        if !has(s, at, n) {
+            return Moved::Stopped(Fault::Cut(at));
+        }
+        if stands_at(s, at, m) {
+            Moved::To(Cursor { at: at + n })
         } else {
-            Moved::Stopped(Fault::Cut(at))
+            Moved::Stopped(Fault::Mark(at))
         }
     }
 
@@ -233,19 +232,26 @@ impl Cursor {
         }
     }
 
-    /// The bytes up to the next zero, and the zero.
-    pub fn string(self, s: &[u8]) -> Counted
-        ensures { λ r. ⌜ calls.«cursor::Cursor::string» self (now (s .entry)) r ⌝ }
+    /// The bytes up to the next c, and that c.
+    pub fn until(self, s: &[u8], c: u8) -> Counted
+        ensures { λ r. ⌜ calls.«cursor::Cursor::until» self (now (s .entry)) c r ⌝ }
     {
         let at = self.at;
         if s.len() <= at {
             return Counted::Stopped(Fault::Cut(at));
         }
-        let end = place_from(s, 0, at);
+        let end = place_from(s, c, at);
         if end < s.len() {
             Counted::Is(end - at, Cursor { at: end + 1 })
         } else {
             Counted::Stopped(Fault::Cut(at))
         }
+    }
+
+    /// The bytes up to the next zero, and the zero.
+    pub fn string(self, s: &[u8]) -> Counted
+        ensures { λ r. ⌜ calls.«cursor::Cursor::string» self (now (s .entry)) r ⌝ }
+    {
+        self.until(s, 0)
     }
 }

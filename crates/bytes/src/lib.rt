@@ -38,22 +38,19 @@ pub enum Endianness {
 
 /// Why reading stopped, and where: the offset of the failed read's first byte.
 pub enum Fault {
-    /// Fewer bytes are left than the read wants, or no zero ends a string.
+    /// Fewer bytes are left than the read wants, or the byte that ends a run never comes.
     Cut(usize),
     /// Enough bytes are left, and they are not the ones that have to stand there.
     Mark(usize),
-    /// The refusal with this number of document 01, for what was read.
+    /// The refusal with this number, for what was read.
     Refusal(u64),
 }
 
 impl Fault {
-    // The numbers of the refusals, as document 01 has them.
+    // The numbers of the refusals, as documents 01 and 02 have them. Document 01's 2, malformed, is 16 or 17 here.
 
     /// Refusal 1: the file does not begin with "BLENDER": it may be compressed.
     pub const COMPRESSED_FILE_NOT_SUPPORTED: u64 = 1;
-
-    /// Refusal 2: the bytes end too early, or are not what has to stand there.
-    pub const MALFORMED: u64 = 2;
 
     /// Refusal 3: a block has the address 0.
     pub const INVALID_MEMORY_ADDRESS: u64 = 3;
@@ -94,14 +91,31 @@ impl Fault {
     /// Refusal 15: something is left of a field's name after its declarator, so that it has no width.
     pub const NAME_NOT_FULLY_READ: u64 = 15;
 
-    /// The number of the refusal: a cut and a wrong mark are both malformed.
+    /// Refusal 16, with the offset of the failed read's first byte: fewer bytes are left than the read wants.
+    pub const CUT_SHORT: u64 = 16;
+
+    /// Refusal 17, with the offset of the failed read's first byte: enough bytes are left, and they differ.
+    pub const WRONG_MARK: u64 = 17;
+
+    /// The number of the refusal.
     pub fn refusal(self) -> u64
         ensures { λ r. ⌜ calls.«Fault::refusal» self r ⌝ }
     {
         match self {
-            Fault::Cut(_) => Fault::MALFORMED,
-            Fault::Mark(_) => Fault::MALFORMED,
+            Fault::Cut(_) => Fault::CUT_SHORT,
+            Fault::Mark(_) => Fault::WRONG_MARK,
             Fault::Refusal(n) => n,
+        }
+    }
+
+    /// The offset of the failed read's first byte, 0 where the refusal carries none.
+    pub fn place(self) -> usize
+        ensures { λ r. ⌜ calls.«Fault::place» self r ⌝ }
+    {
+        match self {
+            Fault::Cut(at) => at,
+            Fault::Mark(at) => at,
+            Fault::Refusal(_) => 0,
         }
     }
 }

@@ -50,7 +50,7 @@ module _ (header : Reader HeaderBytes) (tree : HeaderTree header) where
       let c = covered s (a .file) (a .first) (b .dna) (b .end) (a .found) (a .last) in
       let d = subst (λ (rows : List Row). Covered header s (a .file .header) rows (b .end)) (sym (a .rows)) c in
       subst (λ (h : Header). Covered header s h (rowsIn t′ (b .rows)) (b .end)) (sym (ap (λ (x : RawBlend). x .header) (a .answer))) d
-  of-answer s t t′ (BlendAnswer.Refused n) w = tt
+  of-answer s t t′ (BlendAnswer.Refused x) w = tt
   of-answer s t t′ (BlendAnswer.TableTooShort n) w = tt
 
 pub cover : EveryBlockBy

@@ -13,7 +13,7 @@ use Rattle.bytes.specs.Paper.Paper.{refuses}
 use Rattle.bytes.specs.Reader.{run, then, times}
 use Rattle.bytes.specs.Reader.Outcome.{read}
 use Rattle.dna.specs.Catalogue.{catalogue, listed, strings, sized, struct, structured, fieldCount}
-use Rattle.field.specs.Declarators.{isFunction, taken, groups, spanned, digits, decimal, numbers, product, pointerOrValue, declared}
+use Rattle.field.specs.Declarators.{functionPointer, functionAs, taken, groups, spanned, digits, decimal, numbers, product, pointerOrValue, declared}
 use Rattle.header.specs.declared.Header.{Header}
 use Rattle.header.specs.declared.blend.HeaderAnswer.{HeaderAnswer}
 use Rattle.blend.specs.declared.blend.BlendAnswer.{BlendAnswer}
@@ -30,7 +30,7 @@ use Rattle.blend.specs.Calls.{Answers, «blend::blend»}
 use Rattle.header.specs.Calls.{«blend::header»}
 use Rattle.demands.specs.Answers.{rowsIn}
 use Rattle.demands.specs.Cover.{Covered}
-use Rattle.demands.specs.Examples.{AtTheEdges, scene, sound, changed, answer, before, after, sceneIn, answerIn, tableIn, ScenesAreRead}
+use Rattle.demands.specs.Examples.{All, examples, malformed, AtTheEdges, scene, sound, changed, answer, before, after, sceneIn, answerIn, tableIn, ScenesAreRead}
 use Rattle.runtime.specs.Views.{partAs}
 use Rattle.demands.specs.Unaltered.{agree, Alike, Stays}
 use Rattle.bytes.specs.Looks.{Untouched}
@@ -46,9 +46,9 @@ in-legacy = record { «pointer_size» = Bits64; endianness = Little; version = r
 in-new : Header
 in-new = record { «pointer_size» = Bits64; endianness = Little; version = record { major = 5; minor = 1 }; format = New }
 
-pub at-the-edges : AtTheEdges
-unfolding run then headerBytes legacy new versionDecimal chainFrom chain boundaryOf rowAt block blockHeader fields kindOf finished readAs declared pointerOrValue isFunction groups taken spanned numbers decimal digits product in-legacy in-new
-at-the-edges = (
+at-document-one : All examples
+unfolding run then headerBytes legacy new versionDecimal chainFrom chain boundaryOf rowAt block blockHeader fields kindOf finished readAs declared functionPointer pointerOrValue groups taken spanned numbers decimal digits product in-legacy in-new
+at-document-one = (
   λ t t′ r w. w .0,
   (
     λ t t′ r w. w .0,
@@ -61,6 +61,13 @@ at-the-edges = (
     ),
   ),
 )
+
+where-malformed : All malformed
+unfolding run then times headerBytes legacy new versionDecimal chainFrom chain boundaryOf rowAt block blockHeader fields kindOf finished catalogue listed strings sized structured struct readAs functionPointer functionAs scene
+where-malformed = (λ t t′ r w. w .0, (λ t t′ r w. w .0, (λ t t′ r w. w .0, (λ t t′ r w. w .0, (λ t t′ r w. w .0, (λ t t′ r w. w .0, (λ t t′ r w. w .0, (λ t t′ r w. w .0, (λ t t′ r w. w .0, (λ t t′ r w. w .0, (λ t t′ r w. w .0, (λ r w. w, (λ r w. w, (λ r w. w, (λ r w. w, (λ r w. w, (λ r w. w, tt)))))))))))))))))
+
+pub at-the-edges : AtTheEdges
+at-the-edges = (at-document-one, where-malformed)
 
 -- both are read, with the same answer and the same table
 pub read-sound : Answers (fileBy headerBytes) sound before (BlendAnswer.Is answer) after
@@ -109,6 +116,6 @@ pub covered : Covered headerBytes sound (answer .header) (rowsIn after (answer .
 covered = every-block sound before after (BlendAnswer.Is answer) read-sound
 
 -- A byte of the DNA1's payload is another matter: with a mark of its catalogue changed the file is refused.
-pub dna-matters : readAs (fileBy headerBytes (scene (ascii "hull") (ascii "hull") (ascii "TYPO") [])) 3 ≡ refuses 2 []
+pub dna-matters : readAs (fileBy headerBytes (scene (ascii "hull") (ascii "hull") (ascii "TYPO") [])) 3 ≡ refuses 17 (108 ∷ [])
 unfolding run then times headerBytes legacy new versionDecimal chainFrom chain boundaryOf rowAt block blockHeader fields kindOf finished catalogue listed strings sized structured struct fieldCount readAs rowTable scene
 dna-matters = refl

@@ -1,7 +1,7 @@
 -- The demands of the exported reading: its numbers are those of an answer of `blend`, and the number 0 for the refusal tells that the file was read.
 use Prim.Native.Nat.{ℕ, _/_}
 use mathlib.Core.Bool.{Bool, true, false}
-use mathlib.Core.List.{List, []}
+use mathlib.Core.List.{List}
 use mathlib.Core.Path.{_≡_, refl, sym, _∙_, ap, subst}
 use native.Mathlib.Omega.{arith}
 use lib.Dec.{ltb}
@@ -11,11 +11,12 @@ use Rattle.bytes.specs.declared.Endianness.the-variants.{Little, Big}
 use Rattle.bytes.specs.declared.Fault.{Fault}
 use Rattle.bytes.specs.declared.Fault.the-variants.{Cut, Mark, Refusal}
 use Rattle.bytes.specs.Paper.{Paper}
-use Rattle.bytes.specs.Paper.Paper.{refuses}
 use Rattle.bytes.specs.Reader.{Outcome}
 use Rattle.bytes.specs.Reader.Outcome.{read, fault}
-use Rattle.bytes.specs.Refusals.{blockTableTooShort, paperFault}
-use Rattle.bytes.proofs.Refusing.{numberOf, fault-told}
+use Rattle.bytes.specs.Refusals.{refusalOf, paperFault}
+use Rattle.bytes.proofs.Lossless.{whole-fault}
+use Rattle.header.proofs.Refusing.{Told}
+use Rattle.blend.proofs.Lossless.{no-short}
 use Rattle.bytes.proofs.Tests.{held, failed}
 use Rattle.dna.specs.declared.dna.DnaCounts.{DnaCounts}
 use Rattle.blend.specs.declared.blend.RawBlend.{RawBlend}
@@ -38,52 +39,52 @@ use Rattle.demands.proofs.Unaltered.{no-other-object}
 -- whatever the rules answer, some answer of `blend` is told so
 pub answered : (o : Outcome File) (room : ℕ) → (c : BlendAnswer) × (paperBlend c ≡ readAs o room)
 unfolding readAs
-answered (fault x) room = (BlendAnswer.Refused (numberOf x), sym (fault-told x))
+answered (fault x) room = (BlendAnswer.Refused x, refl)
 answered (read f at) room = last (f .chain .last)
   where
     rows : ℕ
     rows = length (f .chain .rows)
 
     last : (l : Outcome DnaCounts) → (c : BlendAnswer) × (paperBlend c ≡ answerFor (f .header) rows room l)
-    last (fault x) = (BlendAnswer.Refused (numberOf x), sym (fault-told x))
+    last (fault x) = (BlendAnswer.Refused x, refl)
     last (read n end) = fits (ltb room rows) refl
       where
         fits : (b : Bool) → ltb room rows ≡ b → (c : BlendAnswer) × (paperBlend c ≡ answerFor (f .header) rows room (read n end))
         fits true e = (BlendAnswer.TableTooShort rows, sym (held _ _ e))
         fits false e = (BlendAnswer.Is (record { header = f .header; rows = rows; end = end; dna = n }), sym (failed _ _ e))
 
--- no refusal of a file has the number 0
-no-zero : (x : Fault) → (x ≡ Refusal 0 → ⊥) → refuses 0 [] ≡ paperFault x → ⊥
-no-zero (Cut at) f e =
-    let z : _≡_ {A = ℕ} 0 2 = cc in
-    omega arith
-no-zero (Mark at) f e =
-    let z : _≡_ {A = ℕ} 0 2 = cc in
-    omega arith
-no-zero (Refusal n) f e =
-    let z : n ≡ 0 = cc in
-    f (ap Refusal z)
+-- no refusal of a file has the number 0, nor the 7 of a table
+pub no-zero : (x : Fault) → Told x → refusalOf x ≡ 0 → ⊥
+no-zero (Cut at) f e = omega arith
+no-zero (Mark at) f e = omega arith
+no-zero (Refusal n) f e = omega (arith, f n refl .0)
 
-numbered : (s : List ℕ) (room : ℕ) → refuses 0 [] ≡ readAs (fileBy headerBytes s) room → ⊥
+pub no-seven : (x : Fault) → Told x → refusalOf x ≡ 7 → ⊥
+no-seven (Cut at) f e = omega arith
+no-seven (Mark at) f e = omega arith
+no-seven (Refusal n) f e = omega (arith, f n refl .1)
+
+-- what a reading stops with is what a tree or a chain gave
+pub stop-told : (s : List ℕ) (room : ℕ) (y : Fault) → paperFault y ≡ readAs (fileBy headerBytes s) room → Told y
 unfolding readAs
-numbered s room e = go (fileBy headerBytes s) refl e
+stop-told s room y e = go (fileBy headerBytes s) refl e
   where
-    last : (f : File) (at : ℕ) → fileBy headerBytes s ≡ read f at → (l : Outcome DnaCounts) → f .chain .last ≡ l → refuses 0 [] ≡ answerFor (f .header) (length (f .chain .rows)) room l → ⊥
-    last f at t (fault x) u g = no-zero x (file-told (f .header) s at x (sym (ap (λ (c : Chain). c .last) (filed headerBytes s f at t .chained)) ∙ u)) g
+    this : (x : Fault) → Told x → paperFault y ≡ paperFault x → Told y
+    this x f g = subst Told (whole-fault x y (sym g)) f
+
+    last : (f : File) (at : ℕ) → fileBy headerBytes s ≡ read f at → (l : Outcome DnaCounts) → f .chain .last ≡ l → paperFault y ≡ answerFor (f .header) (length (f .chain .rows)) room l → Told y
+    last f at t (fault x) u g = this x (file-told (f .header) s at x (sym (ap (λ (c : Chain). c .last) (filed headerBytes s f at t .chained)) ∙ u)) g
     last f at t (read n end) u g = fits (ltb room (length (f .chain .rows))) refl
       where
-        fits : (b : Bool) → ltb room (length (f .chain .rows)) ≡ b → ⊥
-        fits true k =
-            let q : refuses 0 [] ≡ blockTableTooShort (length (f .chain .rows)) = g ∙ held _ _ k in
-            let z : _≡_ {A = ℕ} 0 7 = cc in
-            omega arith
+        fits : (b : Bool) → ltb room (length (f .chain .rows)) ≡ b → Told y
+        fits true k = absurd (no-short (length (f .chain .rows)) y (sym (g ∙ held _ _ k)))
         fits false k =
-            let q : refuses 0 [] ≡ paperBlend (BlendAnswer.Is (record { header = f .header; rows = length (f .chain .rows); end = end; dna = n })) = g ∙ failed _ _ k in
+            let q : paperFault y ≡ paperBlend (BlendAnswer.Is (record { header = f .header; rows = length (f .chain .rows); end = end; dna = n })) = g ∙ failed _ _ k in
             let z : _≡_ {A = ℕ} 0 1 = cc in
-            omega arith
+            absurd (omega arith)
 
-    go : (o : Outcome File) → fileBy headerBytes s ≡ o → refuses 0 [] ≡ readAs o room → ⊥
-    go (fault x) t g = no-zero x (header-told s x t) g
+    go : (o : Outcome File) → fileBy headerBytes s ≡ o → paperFault y ≡ readAs o room → Told y
+    go (fault x) t g = this x (header-told s x t) g
     go (read f at) t g = last f at t (f .chain .last) refl g
 
 -- the answer of `blend` that an exported reading without a refusal tells
@@ -97,9 +98,9 @@ read-by s t t′ r w e = go (answered (fileBy headerBytes s) (length t / perRow)
   where
     go : (c : BlendAnswer) → paperBlend c ≡ readAs (fileBy headerBytes s) (length t / perRow) → Read s t t′ r
     go (BlendAnswer.Is b) k = record { answer = b; answers = (k, w .1); told = w .0 ∙ ap readOut (sym k) }
-    go (BlendAnswer.Refused n) k =
-        let z : n ≡ 0 = ap (λ (p : Paper). readOut p .refusal) k ∙ ap (λ (q : BlendRead). q .refusal) (sym (w .0)) ∙ e in
-        absurd (numbered s (length t / perRow) (ap (λ (m : ℕ). refuses m []) (sym z) ∙ k))
+    go (BlendAnswer.Refused x) k =
+        let z : refusalOf x ≡ 0 = ap (λ (p : Paper). readOut p .refusal) k ∙ ap (λ (q : BlendRead). q .refusal) (sym (w .0)) ∙ e in
+        absurd (no-zero x (stop-told s (length t / perRow) x k) z)
     go (BlendAnswer.TableTooShort n) k =
         let z : _≡_ {A = ℕ} 7 0 = ap (λ (p : Paper). readOut p .refusal) k ∙ ap (λ (q : BlendRead). q .refusal) (sym (w .0)) ∙ e in
         absurd (omega arith)

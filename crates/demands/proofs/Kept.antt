@@ -165,7 +165,7 @@ module _ (h : Header) (s z : List ℕ) where
   stands-kept : (at : ℕ) → at + 4 ≤ length s → at + 4 ≤ length z → Untouched s z at (at + 4) → stands z at (ascii "ENDB") ≡ stands s at (ascii "ENDB")
   stands-kept at k m u = ap (λ (l : List ℕ). same l (ascii "ENDB")) (window s z at 4 k m u)
 
-  block-kept : (at : ℕ) (r : Row) (l : Last) (next : ℕ) → boundaryOf h s at ≡ Boundary.Block r l next → Untouched s z at (at + blockHeaderLength (h .format) (h .«pointer_size»)) → next ≤ length z
+  pub block-kept : (at : ℕ) (r : Row) (l : Last) (next : ℕ) → boundaryOf h s at ≡ Boundary.Block r l next → Untouched s z at (at + blockHeaderLength (h .format) (h .«pointer_size»)) → next ≤ length z
       → (isDna (kindOf (r .code)) ≡ true → payloadOf z r ≡ payloadOf s r) → boundaryOf h z at ≡ Boundary.Block r l next
   block-kept at r l next e u k p =
       let i = block-lies h s at r l next e in

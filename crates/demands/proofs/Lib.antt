@@ -11,5 +11,8 @@ pub mod Exported
 pub mod Walked
 pub mod Sentences
 pub mod Widths
+pub mod Malformed
+pub mod CutUpload
+pub mod Steps
 pub mod Examples
 pub mod Wrong

@@ -20,7 +20,8 @@ use Rattle.primitive.specs.Primitive.{valueOf, float, named}
 use Rattle.bytes.specs.Reader.{Outcome}
 use Rattle.bytes.specs.Reader.Outcome.{read, fault}
 use Rattle.bytes.specs.Refusals.{blockTableTooShort, paperFault}
-use Rattle.bytes.proofs.Refusing.{numberOf, fault-told}
+use Rattle.bytes.proofs.Lossless.{whole-fault}
+use Rattle.blend.proofs.Lossless.{no-short}
 use Rattle.bytes.proofs.Tests.{held, failed}
 use Rattle.primitive.proofs.Values.{float-bits}
 use Rattle.dna.specs.declared.dna.DnaCounts.{DnaCounts}
@@ -44,43 +45,32 @@ use Rattle.demands.proofs.Accepted.{accepted}
 use Rattle.demands.proofs.Walked.{to-held}
 
 -- how a reading that is refused stops, and one whose table is too short
-refusing : (x : Fault) (n : ℕ) → refuses n [] ≡ paperFault x → refused (numberOf x) ≡ refused n
-refusing x n e =
-    let k : refuses n [] ≡ refuses (numberOf x) [] = e ∙ fault-told x in
-    let m : numberOf x ≡ n = cc in
-    ap refused m
-
-no-short : (x : Fault) (n : ℕ) {A : Type 0} → blockTableTooShort n ≡ paperFault x → A
-no-short x n e =
-    let k : blockTableTooShort n ≡ refuses (numberOf x) [] = e ∙ fault-told x in
-    let z : _≡_ {A = ℕ} 0 1 = cc in
-    absurd (omega arith)
+refusing : (x y : Fault) → paperFault y ≡ paperFault x → refused x ≡ refused y
+refusing x y e = ap refused (whole-fault x y (sym e))
 
 module _ (room : ℕ) where
-  stops-refused : (o : Outcome File) (n : ℕ) → refuses n [] ≡ readAs o room → stopBy o ≡ refused n
+  stops-refused : (o : Outcome File) (y : Fault) → paperFault y ≡ readAs o room → stopBy o ≡ refused y
   unfolding readAs
-  stops-refused (fault x) n e = refusing x n e
-  stops-refused (read f at) n e = last (f .chain .last) e
+  stops-refused (fault x) y e = refusing x y e
+  stops-refused (read f at) y e = last (f .chain .last) e
     where
-      last : (l : Outcome DnaCounts) → refuses n [] ≡ answerFor (f .header) (length (f .chain .rows)) room l → stopOf l ≡ refused n
-      last (fault x) g = refusing x n g
+      last : (l : Outcome DnaCounts) → paperFault y ≡ answerFor (f .header) (length (f .chain .rows)) room l → stopOf l ≡ refused y
+      last (fault x) g = refusing x y g
       last (read m end) g = fits (ltb room (length (f .chain .rows))) refl
         where
-          fits : (b : Bool) → ltb room (length (f .chain .rows)) ≡ b → ended end ≡ refused n
-          fits true k =
-              let q : refuses n [] ≡ blockTableTooShort (length (f .chain .rows)) = g ∙ held _ _ k in
-              cc
+          fits : (b : Bool) → ltb room (length (f .chain .rows)) ≡ b → ended end ≡ refused y
+          fits true k = absurd (no-short (length (f .chain .rows)) y (sym (g ∙ held _ _ k)))
           fits false k =
-              let q : refuses n [] ≡ paperBlend (BlendAnswer.Is (record { header = f .header; rows = length (f .chain .rows); end = end; dna = m })) = g ∙ failed _ _ k in
+              let q : paperFault y ≡ paperBlend (BlendAnswer.Is (record { header = f .header; rows = length (f .chain .rows); end = end; dna = m })) = g ∙ failed _ _ k in
               cc
 
   stops-short : (o : Outcome File) (n : ℕ) → blockTableTooShort n ≡ readAs o room → (end : ℕ) × (length (rowsOf o) ≡ n) × (stopBy o ≡ ended end)
   unfolding readAs
-  stops-short (fault x) n e = no-short x n e
+  stops-short (fault x) n e = absurd (no-short n x e)
   stops-short (read f at) n e = last (f .chain .last) e
     where
       last : (l : Outcome DnaCounts) → blockTableTooShort n ≡ answerFor (f .header) (length (f .chain .rows)) room l → (end : ℕ) × (length (f .chain .rows) ≡ n) × (stopOf l ≡ ended end)
-      last (fault x) g = no-short x n g
+      last (fault x) g = absurd (no-short n x g)
       last (read m end) g = fits (ltb room (length (f .chain .rows))) refl
         where
           fits : (b : Bool) → ltb room (length (f .chain .rows)) ≡ b → (to : ℕ) × (length (f .chain .rows) ≡ n) × (ended end ≡ ended to)
@@ -98,9 +88,9 @@ walks-as-read s t t′ (BlendAnswer.Is b) w =
     let x = subst (λ (o : Outcome File). Walk (Stepped headerBytes s) start (rowsOf o) (stopBy o)) (a .found) (walks headerBytes s) in
     let y = subst (λ (l : Outcome DnaCounts). Walk (Stepped headerBytes s) start (a .file .chain .rows) (stopOf l)) (a .last) x in
     subst (λ (rs : List Row). Walk (Stepped headerBytes s) start rs (ended (b .end))) (sym (a .rows)) y
-walks-as-read s t t′ (BlendAnswer.Refused n) w =
+walks-as-read s t t′ (BlendAnswer.Refused x) w =
     let rows = rowsOf (fileBy headerBytes s) in
-    (rows, subst (λ (a : Stop). Walk (Stepped headerBytes s) start rows a) (stops-refused (length t / perRow) (fileBy headerBytes s) n (w .0)) (walks headerBytes s))
+    (rows, subst (λ (a : Stop). Walk (Stepped headerBytes s) start rows a) (stops-refused (length t / perRow) (fileBy headerBytes s) x (w .0)) (walks headerBytes s))
 walks-as-read s t t′ (BlendAnswer.TableTooShort n) w =
     let rows = rowsOf (fileBy headerBytes s) in
     let k = stops-short (length t / perRow) (fileBy headerBytes s) n (w .0) in
@@ -108,9 +98,9 @@ walks-as-read s t t′ (BlendAnswer.TableTooShort n) w =
 
 pub held-walks-as-read : HeldWalksAsRead
 held-walks-as-read file v o t t′ (BlendAnswer.Is b) w = to-held file v o (rowsIn t′ (b .rows)) (ended (b .end)) (walks-as-read (now file) t t′ (BlendAnswer.Is b) w)
-held-walks-as-read file v o t t′ (BlendAnswer.Refused n) w =
-    let k = walks-as-read (now file) t t′ (BlendAnswer.Refused n) w in
-    (k .0, to-held file v o (k .0) (refused n) (k .1))
+held-walks-as-read file v o t t′ (BlendAnswer.Refused x) w =
+    let k = walks-as-read (now file) t t′ (BlendAnswer.Refused x) w in
+    (k .0, to-held file v o (k .0) (refused x) (k .1))
 held-walks-as-read file v o t t′ (BlendAnswer.TableTooShort n) w =
     let k = walks-as-read (now file) t t′ (BlendAnswer.TableTooShort n) w in
     (k .0, k .1, k .2, to-held file v o (k .0) (ended (k .1)) (k .3))

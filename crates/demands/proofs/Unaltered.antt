@@ -236,7 +236,7 @@ module _ (header : Reader HeaderBytes) (tree : HeaderTree header) (s t t′ : Li
 pub unaltered : NoOtherObjectBy
 unaltered header tree s t t′ (BlendAnswer.Is b) w z u u′ c x =
     λ long alike. (answer header tree s t t′ b w z u u′ c x long alike, stays header tree s t t′ b w z u u′ c x long alike)
-unaltered header tree s t t′ (BlendAnswer.Refused n) w z u u′ c x = tt
+unaltered header tree s t t′ (BlendAnswer.Refused y) w z u u′ c x = tt
 unaltered header tree s t t′ (BlendAnswer.TableTooShort n) w z u u′ c x = tt
 
 pub no-other-object : NoOtherObject

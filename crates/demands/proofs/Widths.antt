@@ -7,9 +7,10 @@ use borrow.Author.Tests.{le-ltb}
 use lib.ListN.{length}
 use Rattle.bytes.specs.Ascii.{ascii}
 use Rattle.bytes.specs.Paper.Paper.{refuses}
+use Rattle.bytes.specs.Reader.{run}
 use Rattle.bytes.proofs.Tests.{failed}
 use Rattle.field.specs.declared.field.ParsedField.{ParsedField}
-use Rattle.field.specs.Declarators.{isFunction, taken, groups, spanned, digits, decimal, numbers, product, pointerOrValue, declared, parsedAs, paperField}
+use Rattle.field.specs.Declarators.{functionPointer, taken, groups, spanned, digits, decimal, numbers, product, pointerOrValue, declared, parsedAs, paperField}
 use Rattle.field.proofs.Examples.{broken}
 use Rattle.field.proofs.Lossless.{whole-field}
 use Rattle.field.proofs.Refusing.{not-zero}
@@ -21,7 +22,7 @@ use Rattle.demands.specs.Sentences.{BrokenNames, StandsFor, WidthsExport
 
 -- what "mat[4" says, with a table of any length
 broken-read : (t : List ℕ) → parsedAs (declared (ascii "mat[4")) (length t) ≡ paperField (ParsedField.Is broken)
-unfolding declared pointerOrValue isFunction groups taken spanned numbers decimal digits product broken
+unfolding run declared functionPointer pointerOrValue groups taken spanned numbers decimal digits product broken
 broken-read t = failed _ _ (le-ltb (length t) 0 (omega arith))
 
 pub broken-names : BrokenNames

@@ -4,6 +4,7 @@ use mathlib.Core.List.{List, [], _∷_}
 use mathlib.Core.Path.{_≡_, refl, ap}
 use native.Mathlib.Omega.{arith}
 use lib.ListN.{length}
+use Rattle.bytes.specs.declared.Fault.the-variants.{Mark}
 use Rattle.bytes.specs.Reader.{run, then, times}
 use Rattle.dna.specs.Catalogue.{catalogue, listed, strings, sized, struct, structured, fieldCount}
 use Rattle.blend.specs.declared.blend.RawBlend.{RawBlend}
@@ -26,13 +27,13 @@ peeking-sound : Answers (peekingBy headerBytes) sound before (BlendAnswer.Is ans
 unfolding run then times headerBytes legacy new versionDecimal chainFrom chain boundaryOf rowAt block blockHeader fields kindOf finished catalogue listed strings sized structured struct fieldCount readAs rowTable scene
 peeking-sound = (refl, refl)
 
-peeking-changed : Answers (peekingBy headerBytes) changed before (BlendAnswer.Refused 2) before
+peeking-changed : Answers (peekingBy headerBytes) changed before (BlendAnswer.Refused (Mark 0)) before
 unfolding run then times headerBytes legacy new versionDecimal chainFrom chain boundaryOf rowAt block blockHeader fields kindOf finished catalogue listed strings sized structured struct fieldCount readAs rowTable scene
 peeking-changed = (refl, refl)
 
 pub peeking-alters : Unaltered (peekingBy headerBytes) → ⊥
 peeking-alters demand =
-    let e : BlendAnswer.Refused 2 ≡ BlendAnswer.Is answer = demand sound before after (BlendAnswer.Is answer) peeking-sound changed before before (BlendAnswer.Refused 2) peeking-changed refl alike .0 in
+    let e : BlendAnswer.Refused (Mark 0) ≡ BlendAnswer.Is answer = demand sound before after (BlendAnswer.Is answer) peeking-sound changed before before (BlendAnswer.Refused (Mark 0)) peeking-changed refl alike .0 in
     let z : _≡_ {A = ℕ} 0 1 = cc in
     absurd (omega arith)
 

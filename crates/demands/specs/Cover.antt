@@ -76,7 +76,7 @@ pub record Covered (header : Reader HeaderBytes) (s : List ℕ) (h : Header) (ro
 -- the claim of an answer of `blend` and the table that it leaves; of a refusal nothing is said
 abbrev pub CoveredBy : Reader HeaderBytes → List ℕ → BlendAnswer → List ℕ → Type 0
 CoveredBy header s (BlendAnswer.Is b) t′ = Covered header s (b .header) (rowsIn t′ (b .rows)) (b .end)
-CoveredBy header s (BlendAnswer.Refused n) t′ = Unit {0}
+CoveredBy header s (BlendAnswer.Refused x) t′ = Unit {0}
 CoveredBy header s (BlendAnswer.TableTooShort n) t′ = Unit {0}
 
 -- Whatever `blend` answers of a file, and leaves in the table, covers the file.

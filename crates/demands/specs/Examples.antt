@@ -1,4 +1,4 @@
--- Examples at the edges: those that document 01 marks with P, as one list with one claim, of what the calls answer; and the scenes that the demands are tried on.
+-- Examples at the edges: those that document 01 marks with P, as one list, and those of request 3 of document 02, with one claim, of what the calls answer; and the scenes that the demands are tried on.
 use Prim.Native.Nat.{ℕ, _+_, _-_}
 use mathlib.Core.List.{List, [], _∷_, _++_}
 use mathlib.Core.Path.{_≡_}
@@ -11,9 +11,10 @@ use Rattle.bytes.specs.Ascii.{ascii}
 use Rattle.bytes.specs.Paper.{Paper}
 use Rattle.bytes.specs.Paper.Paper.{refuses}
 use Rattle.bytes.specs.Tables.{over}
+use Rattle.field.specs.declared.field.FnPointerField.{FnPointerField}
 use Rattle.field.specs.declared.field.ParsedField.{ParsedField}
-use Rattle.field.specs.Calls.{«field::parse_field»}
-use Rattle.field.specs.Declarators.{toldAs, paperField}
+use Rattle.field.specs.Calls.{«field::fn_pointer», «field::parse_field»}
+use Rattle.field.specs.Declarators.{toldAs, paperField, paperFunction}
 use Rattle.header.specs.declared.FileFormat.{FileFormat}
 use Rattle.header.specs.declared.FileFormat.the-variants.{Legacy, New}
 use Rattle.header.specs.declared.Header.{Header}
@@ -29,6 +30,7 @@ pub data Example : Type 0 where
   file : List ℕ → Paper → Example  -- a file, and what the reader answers
   version : List ℕ → (major minor : ℕ) → Example  -- a header with these version bytes, and the version
   declarator : List ℕ → Paper → List ℕ → Example  -- a field's name, what is answered with a table of 2 numbers, and the dimensions
+  function : List ℕ → Paper → Example  -- a field's name, and what is answered of it as a function pointer
 
 abbrev pub Holds : Example → Type 0
 Holds (file s answer) = (t t′ : List ℕ) (r : BlendAnswer) → «blend::blend» s t r t′ → paperBlend r ≡ answer
@@ -36,6 +38,7 @@ Holds (version s major minor) =
     (r : HeaderAnswer) → «blend::header» s r → (h : Header) × (at : ℕ) × (r ≡ HeaderAnswer.Is h at) × (h .version ≡ record { major = major; minor = minor })
 Holds (declarator s answer dimensions) =
     (r : ParsedField) (t′ : List ℕ) → «field::parse_field» s (9 ∷ 9 ∷ []) r t′ → (paperField r ≡ answer) × (t′ ≡ over dimensions (9 ∷ 9 ∷ []))
+Holds (function s answer) = (r : FnPointerField) → «field::fn_pointer» s r → paperFunction r ≡ answer
 
 abbrev pub All : List Example → Type 0
 All [] = Unit {0}
@@ -45,12 +48,12 @@ All (e ∷ es) = Holds e × All es
 abbrev pub twoOfOne : List ℕ
 twoOfOne = ascii "BLENDER-v280" ++ (0 ∷ 0 ∷ 0 ∷ 0 ∷ 0 ∷ 0 ∷ 0 ∷ 0 ∷ 1 ∷ 0 ∷ 0 ∷ 0 ∷ 0 ∷ 0 ∷ 0 ∷ 0 ∷ 0 ∷ 0 ∷ 0 ∷ 0 ∷ 2 ∷ 0 ∷ 0 ∷ 0 ∷ [])
 
--- In the order of document 01. Of a declarator `toldAs` has the kind (0 value, 1 array, 3 pointer array, 4 function pointer), the name's place and length, the
+-- In the order of document 01, whose 2 is 16 or 17 with its place (request 3 of document 02). Of a declarator `toldAs` has the kind (0 value, 1 array, 3 pointer array, 4 function pointer), the name's place and length, the
 -- rest's, and the kind's own numbers: indirection, length and number of dimensions, those it has.
 abbrev pub examples : List Example
 examples =
     file (ascii "BLENDE") (refuses 1 [])
-    ∷ file (ascii "BLENDER") (refuses 2 [])
+    ∷ file (ascii "BLENDER") (refuses 16 (7 ∷ []))
     ∷ version (ascii "BLENDER17-01v0501") 5 1
     ∷ version (ascii "BLENDER-v2x0") 0 20
     ∷ file twoOfOne (refuses 4 [])
@@ -63,9 +66,6 @@ examples =
     ∷ declarator (ascii "") (toldAs 0 (0, 0) (0, 0) []) []
     ∷ []
 
-abbrev pub AtTheEdges : Type 0
-AtTheEdges = All examples
-
 -- Document 01's scene with a second object, whose block header is the first one's: the payloads of both objects, 4 bytes each, in the place of "hull"; 4 bytes
 -- in that of the catalogue's mark "TYPE"; and bytes after the end mark.
 unfoldable pub scene : List ℕ → List ℕ → List ℕ → List ℕ → List ℕ
@@ -77,6 +77,36 @@ scene one other mark after =
     ++ ascii "SDNANAME" ++ (1 ∷ 0 ∷ 0 ∷ 0 ∷ 120 ∷ 0 ∷ 0 ∷ 0 ∷ []) ++ mark ++ (1 ∷ 0 ∷ 0 ∷ 0 ∷ []) ++ ascii "int" ++ (0 ∷ [])
     ++ ascii "TLEN" ++ (4 ∷ 0 ∷ 0 ∷ 0 ∷ []) ++ ascii "STRC" ++ (1 ∷ 0 ∷ 0 ∷ 0 ∷ 0 ∷ 0 ∷ 1 ∷ 0 ∷ 0 ∷ 0 ∷ 0 ∷ 0 ∷ [])
     ++ ascii "ENDB" ++ after
+
+-- Why a file is malformed, and where (request 3 of document 02): in the header, at a boundary, in a block, in a catalogue that is inside a file (a mark, and a payload that ends
+-- too early), and in a function pointer. `DNA1` has 3 bytes of payload, though the file goes on.
+abbrev pub shortCatalogue : List ℕ
+shortCatalogue =
+    ascii "BLENDER-v280DNA1" ++ (3 ∷ 0 ∷ 0 ∷ 0 ∷ 32 ∷ 0 ∷ 0 ∷ 0 ∷ 0 ∷ 0 ∷ 0 ∷ 0 ∷ 0 ∷ 0 ∷ 0 ∷ 0 ∷ 1 ∷ 0 ∷ 0 ∷ 0 ∷ []) ++ ascii "SDNANAMEENDB"
+
+abbrev pub malformed : List Example
+malformed =
+    file (ascii "BLENDER-") (refuses 16 (8 ∷ []))
+    ∷ file (ascii "BLENDER-x") (refuses 17 (8 ∷ []))
+    ∷ file (ascii "BLENDER-v28") (refuses 16 (9 ∷ []))
+    ∷ file (ascii "BLENDER17") (refuses 16 (9 ∷ []))
+    ∷ file (ascii "BLENDER17x") (refuses 17 (9 ∷ []))
+    ∷ file (ascii "BLENDER-v280") (refuses 16 (12 ∷ []))
+    ∷ file (ascii "BLENDER-v280EN") (refuses 16 (12 ∷ []))
+    ∷ file (ascii "BLENDER-v280OB") (refuses 16 (12 ∷ []))
+    ∷ file (ascii "BLENDER-v280DATA") (refuses 16 (16 ∷ []))
+    ∷ file shortCatalogue (refuses 16 (36 ∷ []))
+    ∷ file (scene (ascii "hull") (ascii "hull") (ascii "TYPO") []) (refuses 17 (108 ∷ []))
+    ∷ function (ascii "x") (refuses 16 (0 ∷ []))
+    ∷ function (ascii "(x") (refuses 17 (0 ∷ []))
+    ∷ function (ascii "(*f") (refuses 16 (2 ∷ []))
+    ∷ function (ascii "(*f)") (refuses 16 (4 ∷ []))
+    ∷ function (ascii "(*f)x") (refuses 17 (4 ∷ []))
+    ∷ function (ascii "(*f)(") (refuses 16 (5 ∷ []))
+    ∷ []
+
+abbrev pub AtTheEdges : Type 0
+AtTheEdges = All examples × All malformed
 
 -- the scene with bytes after its end mark, and a copy with another payload of the first object and nothing after the mark
 abbrev pub sound : List ℕ

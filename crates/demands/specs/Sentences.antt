@@ -47,11 +47,11 @@ use Rattle.held.specs.Calls as held
 use Rattle.held.specs.Walks.{HeldWalk}
 use Rattle.demands.specs.Answers.{rowsIn}
 
--- The walker: "From the start it gives the blocks' rows in order, then the offset after the end mark, or the reader's refusal (6 included, 7 never)." Where the
--- table is too short for the reader, the walk has the rows that 7 says are needed.
+-- The walker: "From the start it gives the blocks' rows in order, then the offset after the end mark, or the reader's refusal (6 included, 7 never)." The refusal is the
+-- reader's with its place. Where the table is too short for the reader, the walk has the rows that 7 says are needed.
 abbrev pub WalkBy : (List Row → Stop → Type 0) → BlendAnswer → List ℕ → Type 0
 WalkBy walk (BlendAnswer.Is b) t′ = walk (rowsIn t′ (b .rows)) (ended (b .end))
-WalkBy walk (BlendAnswer.Refused n) t′ = (rows : List Row) × walk rows (refused n)
+WalkBy walk (BlendAnswer.Refused x) t′ = (rows : List Row) × walk rows (refused x)
 WalkBy walk (BlendAnswer.TableTooShort n) t′ = (rows : List Row) × (end : ℕ) × (length rows ≡ n) × walk rows (ended end)
 
 abbrev pub WalksAsRead : Type 0

@@ -94,7 +94,7 @@ pub record Stays (s t t′ : List ℕ) (n : ℕ) (e : Endianness) (z u u′ : Li
 abbrev pub UnalteredBy : (s t : List ℕ) → BlendAnswer → (t′ z u : List ℕ) → BlendAnswer → List ℕ → Type 0
 UnalteredBy s t (BlendAnswer.Is b) t′ z u c u′ =
     length u ≡ length t → Alike (rowsIn t′ (b .rows)) (b .end) s z → (c ≡ BlendAnswer.Is b) × Stays s t t′ (b .rows) (b .header .endianness) z u u′
-UnalteredBy s t (BlendAnswer.Refused n) t′ z u c u′ = Unit {0}
+UnalteredBy s t (BlendAnswer.Refused x) t′ z u c u′ = Unit {0}
 UnalteredBy s t (BlendAnswer.TableTooShort n) t′ z u c u′ = Unit {0}
 
 -- Whatever `blend` answers of two such files with tables of the same length, where it reads the first.

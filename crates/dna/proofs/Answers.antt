@@ -169,10 +169,10 @@ refused-so o r k vs names types structs fields p a =
       in-fields = refused-kept _ k vs _ fields q;
     }
 
-pub stopped-so : (o : Outcome Dna) (x : Fault) (names types structs fields : List ℕ) → o ≡ fault x → Filled o (DnaTables.Refused 2) names types structs fields names types structs fields
+pub stopped-so : (o : Outcome Dna) (x : Fault) (names types structs fields : List ℕ) → o ≡ fault x → Filled o (DnaTables.Refused x) names types structs fields names types structs fields
 unfolding readAs
 stopped-so o x names types structs fields h =
-    refused-so o (DnaTables.Refused 2) 2 [] names types structs fields refl (sym (ap (λ (q : Outcome Dna). readAs q (rooms (length names) (length types) (length structs) (length fields))) h))
+    refused-so o (DnaTables.Refused x) _ _ names types structs fields refl (sym (ap (λ (q : Outcome Dna). readAs q (rooms (length names) (length types) (length structs) (length fields))) h))
 
 -- one that finds room for all fills every table
 module _ (e : Endianness) (s : List ℕ) (l : Layout) (o : Outcome Dna) (w : Whole e s l o) (names types structs fields names′ types′ structs′ fields′ : List ℕ)

@@ -10,12 +10,12 @@ use Rattle.bytes.specs.declared.Fault.{Fault}
 use Rattle.bytes.specs.Ascii.{ascii}
 use Rattle.bytes.specs.Helpers.{past, leading}
 use Rattle.bytes.specs.Number.{number, tag}
-use Rattle.bytes.specs.Reader.{Reader, Outcome, run, then, times}
-use Rattle.bytes.specs.Reader.Reader.{done, skip, string}
+use Rattle.bytes.specs.Reader.{Reader, Outcome, run, string, then, times}
+use Rattle.bytes.specs.Reader.Reader.{done, skip}
 use Rattle.bytes.specs.Reader.Outcome.{read, fault}
 use Rattle.bytes.proofs.Extent.{ends-after, ends-within}
 use Rattle.bytes.proofs.Times.{joined, one-more, none-yet, found-list, past-none, past-more, times-stops, past-read, past-fault, goes-on, stops}
-use Rattle.bytes.proofs.Onward.{string-on, string-stops, skip-on, skip-stops, number-on, number-stops, number-moves, tag-on, tag-stops}
+use Rattle.bytes.proofs.Onward.{until-on, until-stops, skip-on, skip-stops, number-on, number-stops, number-moves, tag-on, tag-stops}
 use Rattle.dna.specs.Catalogue.{Struct, text, padding, strings, listed, size, sized, field, struct, structured, fieldCount}
 use Rattle.dna.specs.Passes.{headed, totalled}
 
@@ -23,11 +23,11 @@ use Rattle.dna.specs.Passes.{headed, totalled}
 module _ (s : List ℕ) (at : ℕ) where
   pub place-read : (n next : ℕ) → read n next ≡ run (string done) s at → run text s at ≡ read (at, n) next
   unfolding run
-  place-read n next h = string-on s at (λ k. done (at, k)) n next h
+  place-read n next h = until-on s at 0 (λ k. done (at, k)) n next h
 
   pub place-stops : (x : Fault) → fault x ≡ run (string done) s at → run text s at ≡ fault x
   unfolding run
-  place-stops x h = string-stops s at (λ k. done (at, k)) x h
+  place-stops x h = until-stops s at 0 (λ k. done (at, k)) x h
 
 -- a loop over the same tree, with its turns counted down
 module _ {A : Type 0} (r : Reader A) (s : List ℕ) (left at : ℕ) where

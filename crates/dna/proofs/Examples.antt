@@ -35,7 +35,7 @@ wide =
 
 -- the counts, a table one row short, and what the tables hold afterwards
 tabled : (readAs (run (catalogue Big) wide 0) (rooms 4 0 6 6) ≡ accepts 0 (2 ∷ 0 ∷ 2 ∷ 3 ∷ [])) × (readAs (run (catalogue Big) wide 0) (rooms 4 0 5 5) ≡ refuses 8 (3 ∷ 2 ∷ []))
-    × (readAs (run (catalogue Little) wide 0) (rooms 0 0 0 0) ≡ refuses 2 [])
+    × (readAs (run (catalogue Little) wide 0) (rooms 0 0 0 0) ≡ refuses 16 (55 ∷ []))
     × (namesTable (run (catalogue Big) wide 0) (rooms 5 0 6 6) (7 ∷ 7 ∷ 7 ∷ 7 ∷ 7 ∷ []) ≡ 12 ∷ 1 ∷ 14 ∷ 0 ∷ 7 ∷ [])
     × (typesTable (run (catalogue Big) wide 0) (rooms 4 1 6 6) (7 ∷ []) ≡ 7 ∷ [])
     × (structsTable (run (catalogue Big) wide 0) (rooms 4 0 6 6) (7 ∷ 7 ∷ 7 ∷ 7 ∷ 7 ∷ 7 ∷ []) ≡ 5 ∷ 0 ∷ 1 ∷ 8 ∷ 1 ∷ 2 ∷ [])

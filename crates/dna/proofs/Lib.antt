@@ -7,3 +7,4 @@ pub mod Layouts
 pub mod Rows
 pub mod Answers
 pub mod Refusing
+pub mod Cutting

@@ -6,8 +6,12 @@ use Rattle.dna.specs.declared.dna.DnaCounted.{DnaCounted}
 use Rattle.dna.specs.declared.dna.DnaCounts as catalogues
 use Rattle.dna.specs.declared.dna.DnaTables.{DnaTables}
 use Rattle.bytes.specs.Reader.{Outcome}
-use Rattle.bytes.specs.Reader.Outcome.{read, fault}
-use Rattle.dna.specs.Catalogue.{Dna, Filled, countsOnly, countedAs, paperTables, paperCounted, outcomeOf}
+use native.Mathlib.Omega.{arith}
+use Rattle.bytes.specs.declared.Fault.{Fault}
+use Rattle.bytes.specs.declared.Fault.the-variants.{Cut, Mark, Refusal}
+use Rattle.bytes.specs.Refusals.{catalogueTableTooShort, paperFault}
+use Rattle.bytes.proofs.Lossless.{whole-fault, whole-told}
+use Rattle.dna.specs.Catalogue.{Dna, Filled, countNumbers, paperTables, paperCounted, outcomeOf}
 
 counts-one : (a b : catalogues.DnaCounts) → a .names ≡ b .names → a .types ≡ b .types → a .structs ≡ b .structs → a .fields ≡ b .fields → a ≡ b
 counts-one a b n t s f =
@@ -15,6 +19,12 @@ counts-one a b n t s f =
     ∙ ap (λ (x : ℕ). record { names = b .names; types = x; structs = a .structs; fields = a .fields }) t
     ∙ ap (λ (x : ℕ). record { names = b .names; types = b .types; structs = x; fields = a .fields }) s
     ∙ ap (λ (x : ℕ). record { names = b .names; types = b .types; structs = b .structs; fields = x }) f
+
+-- a fault is no refusal 8
+no-short : (which rows : ℕ) (x : Fault) → catalogueTableTooShort which rows ≡ paperFault x → ⊥
+no-short which rows (Cut at) h = let z : _≡_ {A = ℕ} 8 16 = cc in omega arith
+no-short which rows (Mark at) h = let z : _≡_ {A = ℕ} 8 17 = cc in omega arith
+no-short which rows (Refusal n) h = let z : _≡_ {A = ℕ} 0 1 = cc in omega arith
 
 pub whole-tables : (a b : DnaTables) → paperTables a ≡ paperTables b → a ≡ b
 whole-tables (DnaTables.Are x) (DnaTables.Are y) h =
@@ -26,10 +36,10 @@ whole-tables (DnaTables.Are x) (DnaTables.Are y) h =
 whole-tables (DnaTables.Are x) (DnaTables.Refused n) h = cc
 whole-tables (DnaTables.Are x) (DnaTables.TableTooShort w y) h = cc
 whole-tables (DnaTables.Refused m) (DnaTables.Are y) h = cc
-whole-tables (DnaTables.Refused m) (DnaTables.Refused n) h = cc
-whole-tables (DnaTables.Refused m) (DnaTables.TableTooShort w y) h = cc
+whole-tables (DnaTables.Refused x) (DnaTables.Refused y) h = ap DnaTables.Refused (whole-fault x y h)
+whole-tables (DnaTables.Refused x) (DnaTables.TableTooShort w y) h = absurd (no-short w y x (sym h))
 whole-tables (DnaTables.TableTooShort v x) (DnaTables.Are y) h = cc
-whole-tables (DnaTables.TableTooShort v x) (DnaTables.Refused n) h = cc
+whole-tables (DnaTables.TableTooShort v x) (DnaTables.Refused y) h = absurd (no-short v x y h)
 whole-tables (DnaTables.TableTooShort v x) (DnaTables.TableTooShort w y) h = cc
 
 pub whole-counted : (a b : DnaCounted) → outcomeOf a ≡ outcomeOf b → a ≡ b
@@ -38,15 +48,11 @@ whole-counted (DnaCounted.Are x m) (DnaCounted.Stopped g) h = cc
 whole-counted (DnaCounted.Stopped f) (DnaCounted.Are y n) h = cc
 whole-counted (DnaCounted.Stopped f) (DnaCounted.Stopped g) h = cc
 
--- equal outcomes, equal papers
-counted-paper : (o : Outcome Dna) (r : DnaCounted) → outcomeOf r ≡ countsOnly o → paperCounted r ≡ countedAs o
-counted-paper (read d m) (DnaCounted.Are x n) h = cc
-counted-paper (read d m) (DnaCounted.Stopped g) h = cc
-counted-paper (fault f) (DnaCounted.Are x n) h = cc
-counted-paper (fault f) (DnaCounted.Stopped g) h = cc
+one-counts : (a b : catalogues.DnaCounts) → countNumbers a ≡ countNumbers b → a ≡ b
+one-counts a b h = counts-one a b (cc) (cc) (cc) (cc)
 
-pub counted-both : (o : Outcome Dna) (r : DnaCounted) → outcomeOf r ≡ countsOnly o → (paperCounted r ≡ countedAs o) × (outcomeOf r ≡ countsOnly o)
-counted-both o r h = (counted-paper o r h, h)
+pub paper-counted : (a b : DnaCounted) → paperCounted a ≡ paperCounted b → a ≡ b
+paper-counted a b h = whole-counted a b (whole-told countNumbers one-counts (outcomeOf a) (outcomeOf b) h)
 
 -- `dna` has one answer, and each table one content afterwards
 pub one-filling : (o : Outcome Dna) (r q : DnaTables) (names types structs fields n₁ t₁ s₁ f₁ n₂ t₂ s₂ f₂ : List ℕ)

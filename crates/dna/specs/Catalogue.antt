@@ -10,11 +10,11 @@ use Rattle.bytes.specs.declared.Endianness.{Endianness}
 use Rattle.bytes.specs.Ascii.{ascii}
 use Rattle.bytes.specs.Number.{number, tag}
 use Rattle.bytes.specs.Paper.{Paper}
-use Rattle.bytes.specs.Paper.Paper.{accepts, refuses}
-use Rattle.bytes.specs.Reader.{Reader, Outcome, then, times}
-use Rattle.bytes.specs.Reader.Reader.{done, here, skip, string}
+use Rattle.bytes.specs.Paper.Paper.{accepts}
+use Rattle.bytes.specs.Reader.{Reader, Outcome, string, then, times}
+use Rattle.bytes.specs.Reader.Reader.{done, here, skip}
 use Rattle.bytes.specs.Reader.Outcome.{read, fault}
-use Rattle.bytes.specs.Refusals.{malformed, catalogueTableTooShort, paperFault}
+use Rattle.bytes.specs.Refusals.{catalogueTableTooShort, paperFault, told}
 use Rattle.bytes.specs.Tables.{written}
 use Rattle.dna.specs.declared.dna.DnaCounts.{DnaCounts}
 use Rattle.dna.specs.declared.dna.DnaCounted.{DnaCounted}
@@ -90,6 +90,9 @@ fieldCount (t ∷ ts) = length (t .1) + fieldCount ts
 abbrev pub counts : Dna → DnaCounts
 counts d = record { names = length (d .names); types = length (d .types); structs = length (d .structs); fields = fieldCount (d .structs) }
 
+abbrev pub countNumbers : DnaCounts → List ℕ
+countNumbers n = n .names ∷ n .types ∷ n .structs ∷ n .fields ∷ []
+
 -- Rows of names: offset, length. Rows of one struct's fields: type, name.
 unfoldable pub pairs : List (ℕ × ℕ) → List ℕ
 pairs [] = []
@@ -133,17 +136,17 @@ answerFor n r =
           | true ↦ catalogueTableTooShort 3 (n .structs)
           | false ↦ elim (ltb (r .fields) (n .fields)) [
             | true ↦ catalogueTableTooShort 4 (n .fields)
-            | false ↦ accepts 0 (n .names ∷ n .types ∷ n .structs ∷ n .fields ∷ [])
+            | false ↦ accepts 0 (countNumbers n)
           ]
         ]
       ]
     ]
 
--- What `dna` answers: any missing byte or mark is 2 (the tree has no refusal of its own), and 8 comes only when the payload reads.
+-- What `dna` answers: any missing byte is 16 and any wrong mark 17, with its place in the payload (the tree has no refusal of its own), and 8 comes only when the payload reads.
 unfoldable pub readAs : Outcome Dna → Rooms → Paper
 unfolding answerFor
 readAs (read d next) r = answerFor (counts d) r
-readAs (fault f) r = malformed
+readAs (fault f) r = paperFault f
 
 -- the rows of a table, where the payload reads
 abbrev pub rowsOf : (Dna → List ℕ) → Outcome Dna → List ℕ
@@ -165,8 +168,8 @@ fieldsTable o r t = written (readAs o r) (rowsOf (λ d. fieldRows (d .structs)) 
 
 -- the paper of the answer: 0 is the one that is no refusal
 abbrev pub paperTables : DnaTables → Paper
-paperTables (DnaTables.Are n) = accepts 0 (n .names ∷ n .types ∷ n .structs ∷ n .fields ∷ [])
-paperTables (DnaTables.Refused n) = refuses n []
+paperTables (DnaTables.Are n) = accepts 0 (countNumbers n)
+paperTables (DnaTables.Refused f) = paperFault f
 paperTables (DnaTables.TableTooShort which rows) = catalogueTableTooShort which rows
 
 -- What `dna` promises of a payload's reading o: the answer r on paper, and the four tables afterwards, from what they held before.
@@ -177,7 +180,7 @@ pub record Filled (o : Outcome Dna) (r : DnaTables) (names types structs fields 
   pub in-structs : structs′ ≡ structsTable o (rooms (length names) (length types) (length structs) (length fields)) structs
   pub in-fields : fields′ ≡ fieldsTable o (rooms (length names) (length types) (length structs) (length fields)) fields
 
--- The counts alone, with the text after the last struct; or the fault as the tree has it.
+-- The counts alone, with the place after the last struct; or the fault as the tree has it.
 abbrev pub countsOnly : Outcome Dna → Outcome DnaCounts
 countsOnly (read d next) = read (counts d) next
 countsOnly (fault f) = fault f
@@ -186,11 +189,6 @@ abbrev pub outcomeOf : DnaCounted → Outcome DnaCounts
 outcomeOf (DnaCounted.Are n next) = read n next
 outcomeOf (DnaCounted.Stopped f) = fault f
 
--- on paper: the four counts and the text, or the fault's refusal, which is 2 for a missing byte and for a mark
-abbrev pub countedAs : Outcome Dna → Paper
-countedAs (read d next) = accepts 0 (length (d .names) ∷ length (d .types) ∷ length (d .structs) ∷ fieldCount (d .structs) ∷ next ∷ [])
-countedAs (fault f) = paperFault f
-
+-- on paper: the four counts and the place, or the fault
 abbrev pub paperCounted : DnaCounted → Paper
-paperCounted (DnaCounted.Are n next) = accepts 0 (n .names ∷ n .types ∷ n .structs ∷ n .fields ∷ next ∷ [])
-paperCounted (DnaCounted.Stopped f) = paperFault f
+paperCounted r = told countNumbers (outcomeOf r)

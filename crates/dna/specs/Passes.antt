@@ -19,17 +19,17 @@ use Rattle.dna.specs.declared.dna.StructTotal.{StructTotal}
 use Rattle.dna.specs.declared.dna.Structs.{Structs}
 use Rattle.dna.specs.Catalogue.{Text, Struct, Dna, text, listed, size, sized, struct, structured, fieldCount}
 
--- a list of strings: how many, where they start, and the text after the padding
+-- a list of strings: how many, where they start, and the place after the padding
 abbrev pub ListedIs : List ℕ → Listed → Outcome (List Text) → Type 0
 ListedIs s (Listed.Are n at next) o = (o ≡ read (leading n text s at) next) × (length (leading n text s at) ≡ n)
 ListedIs s (Listed.Stopped f) o = o ≡ fault f
 
--- the sizes of m types: where they start, and the text after the padding
+-- the sizes of m types: where they start, and the place after the padding
 abbrev pub SizedIs : Endianness → ℕ → List ℕ → Sized → Outcome (List ℕ) → Type 0
 SizedIs e m s (Sized.Are at next) o = (o ≡ read (leading m (size e) s at) next) × (length (leading m (size e) s at) ≡ m)
 SizedIs e m s (Sized.Stopped f) o = o ≡ fault f
 
--- how many numbers of two bytes stand from a text on, one after another
+-- how many numbers of two bytes stand from a place on, one after another
 abbrev pub shortsFrom : List ℕ → ℕ → ℕ
 shortsFrom s at = (length s - at) / 2
 
@@ -51,7 +51,7 @@ abbrev pub structTotal : StructTotal → Outcome ℕ
 structTotal (StructTotal.Are n c) = read n (c .at)
 structTotal (StructTotal.Stopped f) = fault f
 
--- the structs: how many, how many fields they have together, where they start, and the text after them
+-- the structs: how many, how many fields they have together, where they start, and the place after them
 abbrev pub StructsAre : Endianness → List ℕ → Structs → Outcome (List Struct) → Type 0
 StructsAre e s (Structs.Are n fields at next) o =
     (o ≡ read (leading n (struct e) s at) next) × (length (leading n (struct e) s at) ≡ n) × (fieldCount (leading n (struct e) s at) ≡ fields)

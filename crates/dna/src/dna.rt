@@ -46,10 +46,10 @@ pub enum DnaCounted {
     Stopped(Fault),
 }
 
-/// What dna answers: the counts, refusal 2, or refusal 8 with the first table that is too short and the rows that it needs.
+/// What dna answers: the counts; where and why the payload does not read; or refusal 8 with the first table that is too short and the rows that it needs.
 pub enum DnaTables {
     Are(DnaCounts),
-    Refused(u64),
+    Refused(Fault),
     TableTooShort(u64, u64),
 }
 
@@ -558,7 +558,7 @@ pub fn dna(
     ensures { λ r. ⌜ calls.«dna::dna» (now (payload .entry)) endianness (now (names .entry)) (now (types .entry)) (now (structs .entry)) (now (fields .entry)) r (now (names .exit)) (now (types .exit)) (now (structs .exit)) (now (fields .exit)) ⌝ }
 {
     match whole(payload, endianness) {
-        Laid::Stopped(_) => DnaTables::Refused(Fault::MALFORMED),
+        Laid::Stopped(f) => DnaTables::Refused(f),
         Laid::Is(l) => {
             let n = DnaCounts {
                 names: l.names,

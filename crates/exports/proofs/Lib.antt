@@ -1,2 +1,3 @@
 -- Laws about what the functions for other languages answer, for the proofs of the demands.
+pub mod Faults
 pub mod Widths

@@ -11,11 +11,13 @@ use Rattle.field.specs.Declarators.{declared, parsedAs, filledBy}
 use Rattle.header.specs.Header.{headerBytes, valued, headerAs}
 use Rattle.blend.specs.Chain.{fileBy, readAs, tableAfter}
 use Rattle.block.specs.Rows.{Column, perRow, cell}
+use Rattle.walker.specs.Walker.{stepBy}
 use Rattle.runtime.specs.Views.{viewAs}
 use Rattle.runtime.specs.Addresses.{lookupAs}
 use Rattle.index.specs.Index.{indexedAs, headsAfter, linksAfter, foundAs}
 use Rattle.exports.specs.declared.BlendHeader.{BlendHeader}
 use Rattle.exports.specs.declared.BlendRead.{BlendRead}
+use Rattle.exports.specs.declared.BlendStep.{BlendStep}
 use Rattle.exports.specs.declared.BlendCatalogue.{BlendCatalogue}
 use Rattle.exports.specs.declared.BlendField.{BlendField}
 use Rattle.exports.specs.declared.BlendView.{BlendView}
@@ -23,13 +25,16 @@ use Rattle.exports.specs.declared.BlendPointer.{BlendPointer}
 use Rattle.exports.specs.declared.BlendIndex.{BlendIndex}
 use Rattle.exports.specs.declared.BlendFound.{BlendFound}
 use Rattle.exports.specs.declared.BlendValue.{BlendValue}
-use Rattle.exports.specs.Exports.{orderOf, headerOut, readOut, Catalogued, fieldOut, widthOf, sizeOf, viewOut, pointerOut, indexOut, foundOut, valueOut}
+use Rattle.exports.specs.Exports.{orderOf, headerOut, readOut, placeFrom, stepOut, Catalogued, fieldOut, widthOf, sizeOf, viewOut, pointerOut, indexOut, foundOut, valueOut}
 
 abbrev pub «blend_header» : (file : List ℕ) → BlendHeader → Type 0
 «blend_header» file r = r ≡ headerOut (headerAs (valued (run headerBytes file 0)))
 
 abbrev pub «blend_read» : (file table : List ℕ) → BlendRead → List ℕ → Type 0
 «blend_read» file table r table′ = (r ≡ readOut (readAs (fileBy headerBytes file) (length table / perRow))) × (table′ ≡ tableAfter (fileBy headerBytes file) table)
+
+abbrev pub «blend_step» : (file : List ℕ) (at dna : ℕ) → BlendStep → Type 0
+«blend_step» file at dna r = r ≡ stepOut (stepBy headerBytes file (placeFrom at dna) .answer) (stepBy headerBytes file (placeFrom at dna) .place)
 
 abbrev pub «blend_catalogue» : (payload : List ℕ) (order : ℕ) (names types structs fields : List ℕ) → BlendCatalogue → List ℕ → List ℕ → List ℕ → List ℕ → Type 0
 «blend_catalogue» payload order names types structs fields r names′ types′ structs′ fields′ = Catalogued (run (catalogue (orderOf order)) payload 0) r names types structs fields names′ types′ structs′ fields′

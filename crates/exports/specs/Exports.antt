@@ -1,7 +1,7 @@
 -- What the functions for other languages answer: the paper of the reader's answer as a struct of numbers. `refusal` is 0 or the refusal's number, and on a
 -- refusal every number that it does not carry is 0. Papers of one whole number or float (`integer`, `real`) are none of these calls'.
 use Prim.Native.Nat.{ℕ}
-use mathlib.Core.Bool.{true, false}
+use mathlib.Core.Bool.{Bool, true, false, _||_}
 use mathlib.Core.List.{List, []}
 use mathlib.Core.Path.{_≡_}
 use lib.Dec.{eqb}
@@ -13,13 +13,16 @@ use Rattle.bytes.specs.declared.PointerSize.the-variants.{Bits32, Bits64}
 use Rattle.bytes.specs.Paper.{Paper}
 use Rattle.bytes.specs.Paper.Paper.{accepts, integer, real, refuses}
 use Rattle.bytes.specs.Reader.{Outcome}
-use Rattle.bytes.specs.Refusals.{nameNotFullyRead}
+use Rattle.bytes.specs.Refusals.{nameNotFullyRead, cutShort, wrongMark}
 use Rattle.field.specs.declared.field.Declarator.{Declarator}
 use Rattle.field.specs.declared.field.FieldInfo.{FieldInfo}
 use Rattle.field.specs.Declarators.{widthAs}
 use Rattle.dna.specs.Catalogue.{Dna, rooms, readAs, namesTable, typesTable, structsTable, fieldsTable}
+use Rattle.block.specs.Rows.{Column, columnOf}
+use Rattle.walker.specs.declared.Place.{Place}
 use Rattle.exports.specs.declared.BlendHeader.{BlendHeader}
 use Rattle.exports.specs.declared.BlendRead.{BlendRead}
+use Rattle.exports.specs.declared.BlendStep.{BlendStep}
 use Rattle.exports.specs.declared.BlendCatalogue.{BlendCatalogue}
 use Rattle.exports.specs.declared.BlendField.{BlendField}
 use Rattle.exports.specs.declared.BlendView.{BlendView}
@@ -28,7 +31,7 @@ use Rattle.exports.specs.declared.BlendIndex.{BlendIndex}
 use Rattle.exports.specs.declared.BlendFound.{BlendFound}
 use Rattle.exports.specs.declared.BlendValue.{BlendValue}
 
--- the refusal's number, what it carries, and the numbers of an answer
+-- The refusal's number, what it carries, and the numbers of an answer.
 abbrev pub refusal : Paper → ℕ
 refusal (accepts k vs) = 0
 refusal (integer z) = 0
@@ -41,6 +44,16 @@ carried (integer z) i = 0
 carried (real x) i = 0
 carried (refuses n vs) i = getD vs i 0
 
+-- where a call can answer 16 or 17: the place that those carry, and what any other refusal carries
+abbrev pub isPlaced : ℕ → Bool
+isPlaced n = eqb n cutShort || eqb n wrongMark
+
+abbrev pub faultAt : Paper → ℕ
+faultAt p = elim (isPlaced (refusal p)) [ true ↦ carried p 0 | false ↦ 0 ]
+
+abbrev pub neededAt : Paper → ℕ → ℕ
+neededAt p i = elim (isPlaced (refusal p)) [ true ↦ 0 | false ↦ carried p i ]
+
 abbrev pub toldAt : Paper → ℕ → ℕ
 toldAt (accepts k vs) i = getD vs i 0
 toldAt (integer z) i = 0
@@ -51,34 +64,90 @@ toldAt (refuses n vs) i = 0
 abbrev pub orderOf : ℕ → Endianness
 orderOf n = elim (eqb n 0) [ true ↦ Little | false ↦ Big ]
 
--- edition (0 legacy, 1 new), pointer bytes, order (0 little, 1 big), major, minor, the header's length
-abbrev pub headerOut : Paper → BlendHeader
-headerOut p =
-    record { refusal = refusal p; edition = toldAt p 0; «pointer_bytes» = toldAt p 1; order = toldAt p 2; major = toldAt p 3; minor = toldAt p 4; length = toldAt p 5 }
+-- the place of 16 and 17; edition (0 legacy, 1 new), pointer bytes, order (0 little, 1 big), major, minor, the header's length
+abbrev pub headerTold : (refusal place : ℕ) → (ℕ → ℕ) → BlendHeader
+headerTold refusal place told =
+    record { refusal = refusal; «fault_at» = place; edition = told 0; «pointer_bytes» = told 1; order = told 2; major = told 3; minor = told 4; length = told 5 }
 
--- the rows needed where the table is too short; then the header, the number of rows, the offset after the end mark, and the counts of the last DNA1
-abbrev pub readOut : Paper → BlendRead
-readOut p =
+abbrev pub headerOut : Paper → BlendHeader
+headerOut p = headerTold (refusal p) (faultAt p) (toldAt p)
+
+-- the place of 16 and 17, and the rows needed where the table is too short; then the header, the number of rows, the offset after the end mark, and the counts of the last DNA1
+abbrev pub readTold : (refusal place needed : ℕ) → (ℕ → ℕ) → BlendRead
+readTold refusal place needed told =
     record {
-      refusal = refusal p;
-      needed = carried p 0;
-      edition = toldAt p 0;
-      «pointer_bytes» = toldAt p 1;
-      order = toldAt p 2;
-      major = toldAt p 3;
-      minor = toldAt p 4;
-      rows = toldAt p 5;
-      end = toldAt p 6;
-      names = toldAt p 7;
-      types = toldAt p 8;
-      structs = toldAt p 9;
-      fields = toldAt p 10;
+      refusal = refusal;
+      «fault_at» = place;
+      needed = needed;
+      edition = told 0;
+      «pointer_bytes» = told 1;
+      order = told 2;
+      major = told 3;
+      minor = told 4;
+      rows = told 5;
+      end = told 6;
+      names = told 7;
+      types = told 8;
+      structs = told 9;
+      fields = told 10;
     }
 
--- the first table that is too short, 1 to 4, and the rows that it needs; the four counts
+abbrev pub readOut : Paper → BlendRead
+readOut p = readTold (refusal p) (faultAt p) (neededAt p 0) (toldAt p)
+
+-- A step of a walk: a place goes in by its offset and whether the block before it is a DNA1, 0 no, any other number yes. Out come 0 for a block, with the numbers of its row,
+-- or 1 for the end, with the offset after the end mark; and the place that is handed back.
+abbrev pub dnaOf : ℕ → Bool
+dnaOf n = elim (eqb n 0) [ true ↦ false | false ↦ true ]
+
+abbrev pub dnaNumber : Bool → ℕ
+dnaNumber true = 1
+dnaNumber false = 0
+
+abbrev pub placeFrom : (at dna : ℕ) → Place
+placeFrom at dna = record { at = at; dna = dnaOf dna }
+
+abbrev pub stepTold : (refusal place kind : ℕ) → (Column → ℕ) → (end : ℕ) → Place → BlendStep
+stepTold refusal place kind row end next =
+    record {
+      refusal = refusal;
+      «fault_at» = place;
+      kind = kind;
+      code = row Column.code;
+      address = row Column.address;
+      index = row Column.index;
+      count = row Column.count;
+      at = row Column.at;
+      payload = row Column.payload;
+      length = row Column.len;
+      end = end;
+      «next_at» = next .at;
+      «next_dna» = dnaNumber (next .dna);
+    }
+
+-- which answer it is, and the numbers of one that is of this kind
+abbrev pub kindOf : Paper → ℕ
+kindOf (accepts k vs) = k
+kindOf (integer z) = 0
+kindOf (real x) = 0
+kindOf (refuses n vs) = 0
+
+abbrev pub toldOf : ℕ → Paper → ℕ → ℕ
+toldOf kind (accepts k vs) i = elim (eqb k kind) [ true ↦ getD vs i 0 | false ↦ 0 ]
+toldOf kind (integer z) i = 0
+toldOf kind (real x) i = 0
+toldOf kind (refuses n vs) i = 0
+
+abbrev pub stepOut : Paper → Place → BlendStep
+stepOut p next = stepTold (refusal p) (faultAt p) (kindOf p) (λ c. toldOf 0 p (columnOf c)) (toldOf 1 p 0) next
+
+-- the place of 16 and 17; the first table that is too short, 1 to 4, and the rows that it needs; the four counts
+abbrev pub catalogueTold : (refusal place table needed : ℕ) → (ℕ → ℕ) → BlendCatalogue
+catalogueTold refusal place table needed told =
+    record { refusal = refusal; «fault_at» = place; table = table; needed = needed; names = told 0; types = told 1; structs = told 2; fields = told 3 }
+
 abbrev pub catalogueOut : Paper → BlendCatalogue
-catalogueOut p =
-    record { refusal = refusal p; table = carried p 0; needed = carried p 1; names = toldAt p 0; types = toldAt p 1; structs = toldAt p 2; fields = toldAt p 3 }
+catalogueOut p = catalogueTold (refusal p) (faultAt p) (neededAt p 0) (neededAt p 1) (toldAt p)
 
 -- what `blend_catalogue` promises of a payload's reading: the answer, and the four tables afterwards, as `dna` fills them
 pub record Catalogued (o : Outcome Dna) (r : BlendCatalogue) (names types structs fields names′ types′ structs′ fields′ : List ℕ) : Type 0 where

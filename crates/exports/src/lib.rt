@@ -37,6 +37,8 @@ use runtime::runtime::Pointer;
 use runtime::runtime::ViewAnswer;
 use runtime::runtime::get_ptr;
 use runtime::runtime::view;
+use walker::Place;
+use walker::Step;
 ghost use mathlib.Core.Path.{_≡_};
 ghost use mathlib.Core.List.{[], _∷_};
 ghost use lib.ListN.{length};
@@ -46,15 +48,18 @@ ghost use Rattle.field.specs.Declarators as declarators;
 ghost use Rattle.blend.specs.Chain as chains;
 ghost use Rattle.header.specs.Header as headers;
 ghost use Rattle.index.specs.Index as indexes;
+ghost use Rattle.block.specs.Rows as rows;
+ghost use Rattle.walker.specs.Walker as walks;
 ghost use Rattle.exports.specs.Exports as rules;
 ghost use Rattle.exports.specs.Calls as calls;
 
-// In every struct `refusal` is 0, or the number of a refusal, and then every number that it does not carry is 0.
+// In every struct `refusal` is 0, or the number of a refusal, and then every number that it does not carry is 0. `fault_at` is what 16 and 17 carry.
 
 /// A file's header in numbers.
 #[repr(C)]
 pub struct BlendHeader {
     pub refusal: u64,
+    pub fault_at: u64,
     pub edition: u64,
     pub pointer_bytes: u64,
     pub order: u64,
@@ -67,6 +72,7 @@ pub struct BlendHeader {
 #[repr(C)]
 pub struct BlendRead {
     pub refusal: u64,
+    pub fault_at: u64,
     pub needed: u64,
     pub edition: u64,
     pub pointer_bytes: u64,
@@ -81,10 +87,29 @@ pub struct BlendRead {
     pub fields: u64,
 }
 
+/// What a step of a walk answers: a row, or the end, and the place that it hands back.
+#[repr(C)]
+pub struct BlendStep {
+    pub refusal: u64,
+    pub fault_at: u64,
+    pub kind: u64,
+    pub code: u64,
+    pub address: u64,
+    pub index: u64,
+    pub count: u64,
+    pub at: u64,
+    pub payload: u64,
+    pub length: u64,
+    pub end: u64,
+    pub next_at: u64,
+    pub next_dna: u64,
+}
+
 /// What a reading of a catalogue answers.
 #[repr(C)]
 pub struct BlendCatalogue {
     pub refusal: u64,
+    pub fault_at: u64,
     pub table: u64,
     pub needed: u64,
     pub names: u64,
@@ -191,6 +216,7 @@ pub extern "C" fn blend_header(file: &[u8]) -> BlendHeader
             let version = h.version;
             BlendHeader {
                 refusal: 0,
+                fault_at: 0,
                 edition: edition(format),
                 pointer_bytes: size.bytes_num() as u64,
                 order: order(endianness),
@@ -199,8 +225,9 @@ pub extern "C" fn blend_header(file: &[u8]) -> BlendHeader
                 length: at as u64,
             }
         }
-        HeaderAnswer::Refused(n) => BlendHeader {
-            refusal: n,
+        HeaderAnswer::Refused(f) => BlendHeader {
+            refusal: f.refusal(),
+            fault_at: f.place() as u64,
             edition: 0,
             pointer_bytes: 0,
             order: 0,
@@ -223,6 +250,7 @@ fn read_out(b: RawBlend) -> BlendRead
     let counts = b.dna;
     BlendRead {
         refusal: 0,
+        fault_at: 0,
         needed: 0,
         edition: edition(format),
         pointer_bytes: size.bytes_num() as u64,
@@ -238,11 +266,12 @@ fn read_out(b: RawBlend) -> BlendRead
     }
 }
 
-fn read_refused(refusal: u64, needed: u64) -> BlendRead
-    ensures { λ r. ⌜ r ≡ rules.readOut (refuses refusal (needed ∷ [])) ⌝ }
+fn read_refused(refusal: u64, fault_at: u64, needed: u64) -> BlendRead
+    ensures { λ r. ⌜ r ≡ rules.readTold refusal «fault_at» needed (λ i. 0) ⌝ }
 {
     BlendRead {
         refusal: refusal,
+        fault_at: fault_at,
         needed: needed,
         edition: 0,
         pointer_bytes: 0,
@@ -265,16 +294,92 @@ pub extern "C" fn blend_read(file: &[u8], table: &mut [u64]) -> BlendRead
 {
     match blend(file, table) {
         BlendAnswer::Is(b) => read_out(b),
-        BlendAnswer::Refused(n) => read_refused(n, 0),
-        BlendAnswer::TableTooShort(rows) => read_refused(Fault::BLOCK_TABLE_TOO_SHORT, rows as u64),
+        BlendAnswer::Refused(f) => read_refused(f.refusal(), f.place() as u64, 0),
+        BlendAnswer::TableTooShort(rows) => read_refused(
+            Fault::BLOCK_TABLE_TOO_SHORT,
+            0,
+            rows as u64,
+        ),
     }
 }
 
-fn catalogue_refused(refusal: u64, table: u64, needed: u64) -> BlendCatalogue
-    ensures { λ r. ⌜ r ≡ rules.catalogueOut (refuses refusal (table ∷ needed ∷ [])) ⌝ }
+// Whether a number stands for a DNA1: 0 no, any other yes.
+fn dna_of(number: u64) -> bool
+    ensures { λ r. ⌜ r ≡ rules.dnaOf number ⌝ }
+{
+    if number == 0 { false } else { true }
+}
+
+fn dna_number(dna: bool) -> u64
+    ensures { λ r. ⌜ r ≡ rules.dnaNumber dna ⌝ }
+{
+    if dna { 1 } else { 0 }
+}
+
+// A row of zeros, where a step has none.
+fn no_row() -> Row
+    ensures { λ r. ⌜ r ≡ rows.none ⌝ }
+{
+    Row {
+        code: 0,
+        address: 0,
+        index: 0,
+        count: 0,
+        at: 0,
+        payload: 0,
+        len: 0,
+    }
+}
+
+// A step's answer in numbers, with the place that it hands back.
+fn step_told(refusal: u64, fault_at: u64, kind: u64, row: Row, end: u64, place: Place) -> BlendStep
+    ensures { λ r. ⌜ r ≡ rules.stepTold refusal «fault_at» kind (rows.numberIn row) end place ⌝ }
+{
+    BlendStep {
+        refusal: refusal,
+        fault_at: fault_at,
+        kind: kind,
+        code: row.code,
+        address: row.address,
+        index: row.index,
+        count: row.count,
+        at: row.at,
+        payload: row.payload,
+        length: row.len,
+        end: end,
+        next_at: place.at as u64,
+        next_dna: dna_number(place.dna),
+    }
+}
+
+fn step_out(step: Step) -> BlendStep
+    ensures { λ r. ⌜ r ≡ rules.stepOut (walks.paperStep step) (walks.placeOf step) ⌝ }
+{
+    match step {
+        Step::Block(row, place) => step_told(0, 0, 0, row, 0, place),
+        Step::End(end, place) => step_told(0, 0, 1, no_row(), end as u64, place),
+        Step::Refused(f, place) => step_told(f.refusal(), f.place() as u64, 0, no_row(), 0, place),
+    }
+}
+
+/// One step of a walk: the block at a place, the end, or the refusal, and the place that is handed back.
+#[no_mangle]
+pub extern "C" fn blend_step(file: &[u8], at: usize, dna: u64) -> BlendStep
+    ensures { λ r. ⌜ calls.«blend_step» (now (file .entry)) at dna r ⌝ }
+{
+    let place = Place {
+        at,
+        dna: dna_of(dna),
+    };
+    step_out(place.step(file))
+}
+
+fn catalogue_refused(refusal: u64, fault_at: u64, table: u64, needed: u64) -> BlendCatalogue
+    ensures { λ r. ⌜ r ≡ rules.catalogueTold refusal «fault_at» table needed (λ i. 0) ⌝ }
 {
     BlendCatalogue {
         refusal: refusal,
+        fault_at: fault_at,
         table: table,
         needed: needed,
         names: 0,
@@ -290,6 +395,7 @@ fn catalogue_out(answer: DnaTables) -> BlendCatalogue
     match answer {
         DnaTables::Are(n) => BlendCatalogue {
             refusal: 0,
+            fault_at: 0,
             table: 0,
             needed: 0,
             names: n.names,
@@ -297,9 +403,10 @@ fn catalogue_out(answer: DnaTables) -> BlendCatalogue
             structs: n.structs,
             fields: n.fields,
         },
-        DnaTables::Refused(n) => catalogue_refused(n, 0, 0),
+        DnaTables::Refused(f) => catalogue_refused(f.refusal(), f.place() as u64, 0, 0),
         DnaTables::TableTooShort(which, rows) => catalogue_refused(
             Fault::CATALOGUE_TABLE_TOO_SHORT,
+            0,
             which,
             rows,
         ),

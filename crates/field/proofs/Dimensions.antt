@@ -13,7 +13,7 @@ use borrow.Author.Tests.{lt-ltb, le-ltb, ltb-true, eq-eqb, ne-eqb}
 use lib.ListN.{length, getD, take, drop, set, drop-of-length-le, length-drop, length-set}
 use lib.Seq.{drop-cons, drop-drop, length-take-le}
 use Rattle.bytes.specs.Ascii.{ascii}
-use Rattle.bytes.specs.Reader.{before, stands}
+use Rattle.bytes.specs.Reader.{before, stands, endedBy}
 use Rattle.bytes.proofs.Filling.{partly, partly-more, partly-all}
 use Rattle.bytes.proofs.Marks.{before-le}
 use Rattle.bytes.proofs.Reading.{to-the-end}
@@ -22,7 +22,7 @@ use Rattle.field.specs.declared.field.Decimal.{Decimal}
 use Rattle.field.specs.declared.field.Group.{Group}
 use Rattle.field.specs.declared.field.Groups.{Groups}
 use Rattle.field.specs.declared.field.Product.{Product}
-use Rattle.field.specs.Declarators.{first, follows, stars, complete, content, afterGroup, decimal, taken, groups, spanned, numbers, join}
+use Rattle.field.specs.Declarators.{first, stars, complete, content, afterGroup, decimal, taken, groups, spanned, numbers, join}
 use Rattle.field.specs.Helpers.{decimalOf, groupBy, groupOf, timesOf, finishBy, finish, leading, leadingBy}
 
 module _ (c : ℕ) (s : List ℕ) (at : ℕ) where
@@ -149,7 +149,7 @@ module _ (l : List ℕ) where
   closes : complete l ≡ true → first (code "]") l 1 < length l
   closes t = go (stands l 0 (ascii "[")) t
     where
-      go : (b : Bool) → (b && follows (code "]") l 1) ≡ true → first (code "]") l 1 < length l
+      go : (b : Bool) → (b && endedBy (code "]") l 1) ≡ true → first (code "]") l 1 < length l
       go true e = ltb-true _ _ e
       go false e = let z : _≡_ {A = ℕ} 0 1 = cc in omega arith
 

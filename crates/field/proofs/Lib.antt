@@ -6,5 +6,6 @@ pub mod Scans
 pub mod Told
 pub mod Widths
 pub mod Refusing
+pub mod Functions
 pub mod Lossless
 pub mod Examples

@@ -4,6 +4,7 @@ use mathlib.Core.List.{List}
 use mathlib.Core.Path.{_≡_, sym, _∙_, ap}
 use native.Mathlib.Omega.{arith}
 use Rattle.bytes.specs.Paper.Paper.{refuses}
+use Rattle.bytes.proofs.Lossless.{whole-fault}
 use Rattle.field.specs.declared.field.Declarator as records
 use Rattle.field.specs.declared.field.FieldInfo.{FieldInfo}
 use Rattle.field.specs.declared.field.FieldWidth.{FieldWidth}
@@ -75,7 +76,7 @@ pub whole-function : (a b : FnPointerField) → paperFunction a ≡ paperFunctio
 whole-function (FnPointerField.Is x) (FnPointerField.Is y) h = ap FnPointerField.Is (whole-declarator x y h)
 whole-function (FnPointerField.Is x) (FnPointerField.Refused n) h = absurd (told-apart (x .kind) _ _ _ _ _ _ h)
 whole-function (FnPointerField.Refused m) (FnPointerField.Is y) h = absurd (told-apart (y .kind) _ _ _ _ _ _ (sym h))
-whole-function (FnPointerField.Refused m) (FnPointerField.Refused n) h = cc
+whole-function (FnPointerField.Refused x) (FnPointerField.Refused y) h = ap FnPointerField.Refused (whole-fault x y h)
 
 pub whole-width : (a b : FieldWidth) → paperWidth a ≡ paperWidth b → a ≡ b
 whole-width (FieldWidth.Is x) (FieldWidth.Is y) h = cc

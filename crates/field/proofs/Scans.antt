@@ -1,16 +1,22 @@
 -- From the parts of a declarator to the whole, as the code finds them.
 use Prim.Native.Char.{code}
 use Prim.Native.Nat.{ℕ, zero, suc, _+_, _-_, _≤_, _<_}
-use mathlib.Core.Bool.{true, false}
+use mathlib.Core.Bool.{Bool, true, false}
 use mathlib.Core.List.{List, []}
 use mathlib.Core.Option.{Option, none, some}
 use mathlib.Core.Path.{_≡_, refl, sym, _∙_, ap}
 use native.Mathlib.Nat.{zero-add, one-mul}
 use native.Mathlib.Omega.{arith}
-use borrow.Author.Tests.{lt-ltb, le-ltb, eq-eqb, ne-eqb}
+use borrow.Author.Tests.{ltb-true, eq-eqb, ne-eqb}
 use lib.ListN.{length, take, drop, length-drop}
 use Rattle.bytes.specs.Ascii.{ascii}
-use Rattle.bytes.specs.Reader.{stands}
+use Rattle.bytes.specs.declared.Fault.{Fault}
+use Rattle.bytes.specs.declared.Fault.the-variants.{Cut}
+use Rattle.bytes.specs.Number.{tag}
+use Rattle.bytes.specs.Reader.{Reader, Outcome, run, before, endedBy}
+use Rattle.bytes.specs.Reader.Reader.{done, here, until}
+use Rattle.bytes.specs.Reader.Outcome.{read, fault}
+use Rattle.bytes.proofs.Onward.{tag-on, tag-stops, until-on, until-stops}
 use Rattle.bytes.proofs.Reading.{to-the-end}
 use Rattle.bytes.proofs.Tests.{held, failed}
 use Rattle.field.specs.declared.field.FieldInfo.{FieldInfo}
@@ -18,8 +24,8 @@ use Rattle.field.specs.declared.field.FnPointerField.{FnPointerField}
 use Rattle.field.specs.declared.field.Groups.{Groups}
 use Rattle.field.specs.declared.field.Product.{Product}
 use Rattle.field.specs.declared.field.Scan.{Scan}
-use Rattle.field.specs.Declarators.{first, onwards, isFunction, nameClosed, argsClosed, stars, nameEnd, groups, numbers, spanned, product, arrayOf, pointerOrValue}
-use Rattle.field.specs.Helpers.{plainKind, arrayKind, placeOf, declaratorOf, functionOf, scanOf, capped, allTimes, finishBy, finish}
+use Rattle.field.specs.Declarators.{Span, first, onwards, functionPointer, stars, nameEnd, groups, numbers, spanned, product, arrayOf, pointerOrValue}
+use Rattle.field.specs.Helpers.{plainKind, arrayKind, placeOf, declaratorOf, functionArgs, functionBy, functionOf, scanOf, capped, allTimes, finishBy, finish}
 use Rattle.field.proofs.Products.{all-capped}
 use Rattle.field.proofs.Dimensions.{first-le, stars-le, groups-within}
 
@@ -39,37 +45,59 @@ pub some-star-array : (n len dimensions : ℕ) → (n ≡ 0 → ⊥) → FieldIn
 some-star-array zero len dimensions z = absurd (z refl)
 some-star-array (suc n) len dimensions z = refl
 
--- the four tests of a function pointer
+-- the reads of a function pointer, one after another
 module _ (s : List ℕ) where
-  not-function : isFunction s ≡ false → FnPointerField.Refused 2 ≡ functionOf s
-  unfolding functionOf
-  not-function t = sym (failed _ _ t)
+  module _ (name : Span) (at : ℕ) where
+    pub args-stop : (x : Fault) → _≡_ {A = Outcome (Unit {0})} (fault x) (run (tag (ascii "(") (done tt)) s at) → FnPointerField.Refused x ≡ functionBy s (run (functionArgs name) s at)
+    args-stop x h = sym (ap (functionBy s) (tag-stops s at (ascii "(") (until (code ")") (λ n. done name)) x h))
 
-  pub no-opening : stands s 0 (ascii "(*") ≡ false → FnPointerField.Refused 2 ≡ functionOf s
-  unfolding isFunction
-  no-opening t = not-function (rw t)
+    module _ (next : ℕ) (h : _≡_ {A = Outcome (Unit {0})} (read tt next) (run (tag (ascii "(") (done tt)) s at)) where
+      args-on : run (functionArgs name) s at ≡ run (until (code ")") (λ n. done name)) s next
+      args-on = tag-on s at (ascii "(") (until (code ")") (λ n. done name)) next h
 
-  module _ (t : stands s 0 (ascii "(*") ≡ true) where
-    pub name-open : length s ≤ nameClosed s → FnPointerField.Refused 2 ≡ functionOf s
-    unfolding isFunction
-    name-open h = not-function (rw (t, le-ltb _ _ h))
+      pub args-open : (x : Fault) → fault x ≡ run (until (code ")") done) s next → FnPointerField.Refused x ≡ functionBy s (run (functionArgs name) s at)
+      args-open x k = sym (ap (functionBy s) (args-on ∙ until-stops s next (code ")") (λ n. done name) x k))
 
-    module _ (h : nameClosed s < length s) where
-      pub no-args : stands s (nameClosed s + 1) (ascii "(") ≡ false → FnPointerField.Refused 2 ≡ functionOf s
-      unfolding isFunction
-      no-args u = not-function (rw (t, lt-ltb _ _ h, u))
+      pub args-read : (n rest : ℕ) → read n rest ≡ run (until (code ")") done) s next
+          → FnPointerField.Is (declaratorOf name (onwards s rest) FieldInfo.FnPointer) ≡ functionBy s (run (functionArgs name) s at)
+      unfolding run
+      args-read n rest k = sym (ap (functionBy s) (args-on ∙ until-on s next (code ")") (λ n. done name) n rest k))
 
-      module _ (u : stands s (nameClosed s + 1) (ascii "(") ≡ true) where
-        pub args-open : length s ≤ argsClosed s → FnPointerField.Refused 2 ≡ functionOf s
-        unfolding isFunction
-        args-open k = not-function (rw (t, lt-ltb _ _ h, u, le-ltb _ _ k))
+  -- the name, after which `rest` is read
+  name-then : ℕ → Reader Span
+  name-then at = until (code ")") (λ len. functionArgs (at, len))
 
-        pub is-function : argsClosed s < length s
-            → FnPointerField.Is (declaratorOf (2, nameClosed s - 2) (onwards s (argsClosed s + 1)) FieldInfo.FnPointer) ≡ functionOf s
-        unfolding functionOf isFunction
-        is-function k =
-            let e : isFunction s ≡ true = rw (t, lt-ltb _ _ h, u, lt-ltb _ _ k) in
-            sym (held _ _ e)
+  pub no-opening : (x : Fault) → _≡_ {A = Outcome (Unit {0})} (fault x) (run (tag (ascii "(*") (done tt)) s 0) → FnPointerField.Refused x ≡ functionOf s
+  unfolding functionOf functionPointer name-then
+  no-opening x h = sym (ap (functionBy s) (tag-stops s 0 (ascii "(*") (here name-then) x h))
+
+  module _ (from : ℕ) (h : _≡_ {A = Outcome (Unit {0})} (read tt from) (run (tag (ascii "(*") (done tt)) s 0)) where
+    opened : run functionPointer s 0 ≡ run (name-then from) s from
+    unfolding functionPointer name-then run
+    opened = tag-on s 0 (ascii "(*") (here name-then) from h
+
+    pub name-open : (x : Fault) → fault x ≡ run (until (code ")") done) s from → FnPointerField.Refused x ≡ functionOf s
+    unfolding functionOf name-then
+    name-open x k = sym (ap (functionBy s) (opened ∙ until-stops s from (code ")") (λ len. functionArgs (from, len)) x k))
+
+    pub name-read : (len next : ℕ) → read len next ≡ run (until (code ")") done) s from → functionOf s ≡ functionBy s (run (functionArgs (from, len)) s next)
+    unfolding functionOf name-then
+    name-read len next k = ap (functionBy s) (opened ∙ until-on s from (code ")") (λ len. functionArgs (from, len)) len next k)
+
+-- a run that was read ends among the bytes
+pub rest-inside : (s : List ℕ) (c at n next : ℕ) → read n next ≡ run (until c done) s at → next ≤ length s
+unfolding run
+rest-inside s c at n next h = go (endedBy c s at) refl h
+  where
+    go : (t : Bool) → endedBy c s at ≡ t
+        → read n next ≡ (elim t as (λ (b : Bool). Outcome ℕ) [ true ↦ read (before c (drop at s)) (at + (before c (drop at s) + 1)) | false ↦ fault (Cut at) ]) → next ≤ length s
+    go true t g =
+        let e : next ≡ at + (before c (drop at s) + 1) = cc in
+        let l : at + before c (drop at s) < length s = ltb-true _ _ t in
+        omega arith
+    go false t g =
+        let z : _≡_ {A = ℕ} 0 1 = cc in
+        absurd (omega arith)
 
 -- what the loop over all groups found
 found-bad : (n k : ℕ) (p : Product) (o : Option (List ℕ)) → Groups.Bad ≡ finishBy n p k o → o ≡ none

@@ -9,7 +9,10 @@ use native.Mathlib.Omega.{arith}
 use borrow.Author.Tests.{le-leb, lt-leb, le-ltb, lt-ltb, leb-true, leb-false}
 use lib.Dec.{leb, eqb}
 use lib.ListN.{length, take, drop}
+use Rattle.bytes.specs.declared.Fault.{Fault}
 use Rattle.bytes.specs.Paper.Paper.{accepts}
+use Rattle.bytes.specs.Reader.{Outcome, run}
+use Rattle.bytes.specs.Reader.Outcome.{read, fault}
 use Rattle.bytes.specs.Refusals.{invalidArraySize, productTooLarge, dimensionTableTooShort}
 use Rattle.bytes.specs.Tables.{over}
 use Rattle.bytes.proofs.Filling.{accepted-written}
@@ -21,42 +24,36 @@ use Rattle.field.specs.declared.field.FnPointerField.{FnPointerField}
 use Rattle.field.specs.declared.field.Span as places
 use Rattle.field.specs.declared.field.Product.{Product}
 use Rattle.field.specs.declared.field.Scan.{Scan}
-use Rattle.field.specs.Declarators.{Span, Said, most, stars, nameEnd, groups, numbers, product, isFunction, functionPointer, arrayOf, pointerOrValue, declared, scannedAs, parsedAs, dimensionsOf, filledBy, functionAs, paperKind, paperDeclarator, paperFunction, arrayTold, widthTold}
+use Rattle.field.specs.Declarators.{Span, Said, most, stars, nameEnd, groups, numbers, product, functionPointer, arrayOf, pointerOrValue, orElse, declared, scannedAs, parsedAs, dimensionsOf, filledBy, functionTold, functionAs, paperKind, paperDeclarator, paperFunction, arrayTold, widthTold}
 use Rattle.field.specs.Declarators.Said.{function, plain, array, invalid}
-use Rattle.field.specs.Helpers.{capped, timesOf, placeOf, declaratorOf, arrayKind, leading, scanOf, functionOf}
+use Rattle.field.specs.Helpers.{capped, timesOf, placeOf, declaratorOf, arrayKind, leading, scanOf, functionBy, functionOf}
 use Rattle.field.proofs.Dimensions.{first-le, stars-le, leading-all}
 
 -- a function pointer or not
 module _ (s : List ℕ) where
   pub function-told : paperFunction (functionOf s) ≡ functionAs s
   unfolding functionOf functionAs
-  function-told = go (isFunction s) refl
+  function-told = go (run functionPointer s 0)
     where
-      go : (b : Bool) → isFunction s ≡ b → paperFunction (functionOf s) ≡ functionAs s
-      go true t = ap paperFunction (held _ _ t) ∙ sym (held _ _ t)
-      go false t = ap paperFunction (failed _ _ t) ∙ sym (failed _ _ t)
+      go : (o : Outcome Span) → paperFunction (functionBy s o) ≡ functionTold s o
+      go (read name next) = refl
+      go (fault x) = refl
 
   pub as-function : (d : records.Declarator) → FnPointerField.Is d ≡ functionOf s → Scan.Plain d ≡ scanOf (declared s)
   unfolding functionOf declared scanOf
-  as-function d h = go (isFunction s) refl
+  as-function d h = go (run functionPointer s 0) h
     where
-      go : (b : Bool) → isFunction s ≡ b → Scan.Plain d ≡ scanOf (declared s)
-      go true t =
-          let e = h ∙ held _ _ t in
-          cc (ap scanOf (held (functionPointer s) (pointerOrValue s) t))
-      go false t =
-          let e = h ∙ failed _ _ t in
-          cc
+      go : (o : Outcome Span) → FnPointerField.Is d ≡ functionBy s o → Scan.Plain d ≡ scanOf (orElse s o)
+      go (read name next) e = cc
+      go (fault x) e = cc
 
-  pub as-other : (m : ℕ) → FnPointerField.Refused m ≡ functionOf s → scanOf (pointerOrValue s) ≡ scanOf (declared s)
+  pub as-other : (y : Fault) → FnPointerField.Refused y ≡ functionOf s → scanOf (pointerOrValue s) ≡ scanOf (declared s)
   unfolding functionOf declared
-  as-other m h = go (isFunction s) refl
+  as-other y h = go (run functionPointer s 0) h
     where
-      go : (b : Bool) → isFunction s ≡ b → scanOf (pointerOrValue s) ≡ scanOf (declared s)
-      go true t =
-          let e = h ∙ held _ _ t in
-          cc
-      go false t = sym (ap scanOf (failed _ _ t))
+      go : (o : Outcome Span) → FnPointerField.Refused y ≡ functionBy s o → scanOf (pointerOrValue s) ≡ scanOf (orElse s o)
+      go (read name next) e = cc
+      go (fault x) e = refl
 
 -- a declarator is no refusal
 accepted : (k : FieldInfo) (name rest : Span) → (kind : ℕ) × (vs : List ℕ) × (paperKind k name rest ≡ accepts kind vs)
@@ -217,18 +214,17 @@ module _ (s : List ℕ) (n : ℕ) (name rest : Span) (ds : List ℕ) where
 
   pub origin : declared s ≡ array n name rest ds → Origin s name ds
   unfolding declared pointerOrValue
-  origin h = go (isFunction s) (eqb (nameEnd s) (length s)) refl refl
+  origin h = go (run functionPointer s 0) (eqb (nameEnd s) (length s)) refl h
     where
-      go : (b c : Bool) → isFunction s ≡ b → eqb (nameEnd s) (length s) ≡ c → Origin s name ds
-      go true c t u =
-          let e : functionPointer s ≡ array n name rest ds = sym (held _ _ t) ∙ h in
+      go : (o : Outcome Span) (c : Bool) → eqb (nameEnd s) (length s) ≡ c → orElse s o ≡ array n name rest ds → Origin s name ds
+      go (read place next) c u g =
           let z : _≡_ {A = ℕ} 0 1 = cc in
           absurd (omega arith)
-      go false true t u =
-          let e = sym (held _ _ u) ∙ sym (failed _ _ t) ∙ h in
+      go (fault x) true u g =
+          let e = sym (held _ _ u) ∙ g in
           let z : _≡_ {A = ℕ} 0 1 = cc in
           absurd (omega arith)
-      go false false t u = by-numbers (numbers (groups (drop (nameEnd s) s))) refl (sym (failed _ _ u) ∙ sym (failed _ _ t) ∙ h)
+      go (fault x) false u g = by-numbers (numbers (groups (drop (nameEnd s) s))) refl (sym (failed _ _ u) ∙ g)
 
 module _ (s : List ℕ) (n : ℕ) (name rest : places.Span) (count : ℕ) (p : Product) (a : Arrayed (declared s) n name rest count p) where
   its-origin : Origin s (a .at-name) (a .dims)

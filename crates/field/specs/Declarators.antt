@@ -8,9 +8,12 @@ use lib.Dec.{leb, ltb, eqb}
 use lib.ListN.{length, take, drop}
 use Rattle.bytes.specs.Ascii.{ascii, isDigit}
 use Rattle.bytes.specs.Paper.{Paper}
+use Rattle.bytes.specs.Number.{tag}
 use Rattle.bytes.specs.Paper.Paper.{accepts, refuses}
-use Rattle.bytes.specs.Reader.{before, stands}
-use Rattle.bytes.specs.Refusals.{malformed, invalidArraySize, productTooLarge, dimensionTableTooShort, nameNotFullyRead}
+use Rattle.bytes.specs.Reader.{Reader, Outcome, run, before, endedBy, stands}
+use Rattle.bytes.specs.Reader.Reader.{done, here, until}
+use Rattle.bytes.specs.Reader.Outcome.{read, fault}
+use Rattle.bytes.specs.Refusals.{paperFault, invalidArraySize, productTooLarge, dimensionTableTooShort, nameNotFullyRead}
 use Rattle.bytes.specs.Tables.{written}
 use Rattle.bytes.specs.declared.PointerSize.{PointerSize}
 use Rattle.bytes.specs.PointerSize.{pointerBytes}
@@ -20,12 +23,9 @@ use Rattle.field.specs.declared.field.ParsedField.{ParsedField}
 use Rattle.field.specs.declared.field.FnPointerField.{FnPointerField}
 use Rattle.field.specs.declared.field.FieldWidth.{FieldWidth}
 
--- where the first byte c from `at` on stands (where there is none: the end of s, or `at` itself past the end), and whether there is one
+-- where the first byte c from `at` on stands (where there is none: the end of s, or `at` itself past the end); `endedBy` says whether there is one
 abbrev pub first : ℕ → List ℕ → ℕ → ℕ
 first c s at = at + before c (drop at s)
-
-abbrev pub follows : ℕ → List ℕ → ℕ → Bool
-follows c s at = ltb (first c s at) (length s)
 
 -- a place of the bytes, an offset and a length, and the place of all from an offset on
 abbrev pub Span : Type 0
@@ -34,16 +34,9 @@ Span = ℕ × ℕ
 abbrev pub onwards : List ℕ → ℕ → Span
 onwards s at = (at, length s - at)
 
--- 1. `(*`, bytes to the first `)`, `)`, `(`, bytes to the first `)`, `)`: function pointer, the first part its name.
--- Where the `)` after the name stands, and the `)` after the second part; both count only where `isFunction` holds.
-abbrev pub nameClosed : List ℕ → ℕ
-nameClosed s = first (code ")") s 2
-
-abbrev pub argsClosed : List ℕ → ℕ
-argsClosed s = first (code ")") s (nameClosed s + 2)
-
-unfoldable pub isFunction : List ℕ → Bool
-isFunction s = stands s 0 (ascii "(*") && follows (code ")") s 2 && stands s (nameClosed s + 1) (ascii "(") && follows (code ")") s (nameClosed s + 2)
+-- 1. `(*`, bytes to the first `)`, `)`, `(`, bytes to the first `)`, `)`: function pointer, the first part its name. One reading tree, which finds the name's place.
+unfoldable pub functionPointer : Reader Span
+functionPointer = tag (ascii "(*") (here (λ at. until (code ")") (λ len. tag (ascii "(") (until (code ")") (λ n. done (at, len))))))
 
 -- 2. One or more `*`: pointer, indirection their number. 3. Otherwise value.
 abbrev pub stars : List ℕ → ℕ
@@ -56,7 +49,7 @@ nameEnd s = first (code "[") s (stars s)
 
 -- Groups `[`..`]` are taken while complete. A group's content ends at the first `]`.
 abbrev pub complete : List ℕ → Bool
-complete l = stands l 0 (ascii "[") && follows (code "]") l 1
+complete l = stands l 0 (ascii "[") && endedBy (code "]") l 1
 
 abbrev pub content : List ℕ → List ℕ
 content l = take (first (code "]") l 1 - 1) (drop 1 l)
@@ -133,12 +126,14 @@ pointerOrValue s =
       | false ↦ arrayOf s (groups (drop (nameEnd s) s)) (numbers (groups (drop (nameEnd s) s)))
     ]
 
-abbrev pub functionPointer : List ℕ → Said
-functionPointer s = function (2, nameClosed s - 2) (onwards s (argsClosed s + 1))
+-- tried in order: a function pointer, and where it does not read, for whatever reason, the others
+abbrev pub orElse : List ℕ → Outcome Span → Said
+orElse s (read name next) = function name (onwards s next)
+orElse s (fault f) = pointerOrValue s
 
 unfoldable pub declared : List ℕ → Said
-unfolding pointerOrValue
-declared s = elim (isFunction s) [ true ↦ functionPointer s | false ↦ pointerOrValue s ]
+unfolding run functionPointer pointerOrValue
+declared s = orElse s (run functionPointer s 0)
 
 -- On paper: which kind, the name's place, the rest's place, and the kind's own numbers, those it has of indirection, length and number of
 -- dimensions, in that order. 0 is a value, 1 an array of values, 2 a pointer, 3 an array of pointers, 4 a function pointer.
@@ -178,9 +173,14 @@ dimensionsOf invalid = []
 abbrev pub filledBy : Said → List ℕ → List ℕ
 filledBy q t = written (parsedAs q (length t)) (dimensionsOf q) t
 
--- What `fn_pointer` answers: as in 1, and malformed (2, the Rust's NomError) where the bytes are no function pointer.
+-- What `fn_pointer` answers: as in 1, and where the bytes are no function pointer (the Rust's NomError) 16 or 17, with the place in the name.
+abbrev pub functionTold : List ℕ → Outcome Span → Paper
+functionTold s (read name next) = scannedAs (function name (onwards s next))
+functionTold s (fault f) = paperFault f
+
 unfoldable pub functionAs : List ℕ → Paper
-functionAs s = elim (isFunction s) [ true ↦ scannedAs (functionPointer s) | false ↦ malformed ]
+unfolding run functionPointer
+functionAs s = functionTold s (run functionPointer s 0)
 
 -- The papers of the answers.
 abbrev pub paperKind : FieldInfo → Span → Span → Paper
@@ -200,7 +200,7 @@ paperField (ParsedField.DimensionTableTooShort n) = dimensionTableTooShort n
 
 abbrev pub paperFunction : FnPointerField → Paper
 paperFunction (FnPointerField.Is d) = paperDeclarator d
-paperFunction (FnPointerField.Refused n) = refuses n []
+paperFunction (FnPointerField.Refused f) = paperFault f
 
 -- Width: type size for a value, times length for an array; pointer bytes (4 or 8) for a pointer or function pointer, times length for a
 -- pointer array.

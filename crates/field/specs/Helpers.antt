@@ -1,11 +1,16 @@
 -- What helpers inside the crate ensure, and how their answers stand to the rules. No rule uses it.
 use Prim.Native.Char.{code}
-use Prim.Native.Nat.{ℕ, zero, suc, _+_, _*_, _-_}
+use Prim.Native.Nat.{ℕ, zero, suc, _+_, _*_}
 use mathlib.Core.Bool.{true, false}
 use mathlib.Core.List.{List, [], _∷_}
 use mathlib.Core.Option.{Option, none, some}
 use lib.Dec.{leb, eqb}
 use lib.ListN.{length}
+use Rattle.bytes.specs.Ascii.{ascii}
+use Rattle.bytes.specs.Number.{tag}
+use Rattle.bytes.specs.Reader.{Reader, Outcome, run}
+use Rattle.bytes.specs.Reader.Reader.{done, until}
+use Rattle.bytes.specs.Reader.Outcome.{read, fault}
 use Rattle.field.specs.declared.field.Span as places
 use Rattle.field.specs.declared.field.FieldInfo.{FieldInfo}
 use Rattle.field.specs.declared.field.Product.{Product}
@@ -15,7 +20,7 @@ use Rattle.field.specs.declared.field.Groups.{Groups}
 use Rattle.field.specs.declared.field.Scan.{Scan}
 use Rattle.field.specs.declared.field.Declarator as records
 use Rattle.field.specs.declared.field.FnPointerField.{FnPointerField}
-use Rattle.field.specs.Declarators.{Span, Said, most, first, onwards, isFunction, nameClosed, argsClosed, complete, content, decimal, groups, numbers, spanned, product}
+use Rattle.field.specs.Declarators.{Span, Said, most, first, onwards, functionPointer, complete, content, decimal, groups, numbers, spanned, product}
 use Rattle.field.specs.Declarators.Said.{function, plain, array, invalid}
 
 -- a number as 64 bits hold it, or that they do not
@@ -80,7 +85,14 @@ scanOf (plain n name rest) = Scan.Plain (declaratorOf name rest (plainKind n))
 scanOf (array n name rest ds) = Scan.Array n (placeOf name) (placeOf rest) (length ds) (capped (product ds))
 scanOf invalid = Scan.Invalid
 
--- the function pointer that bytes are, if they are one
+-- a function pointer from its second part on, and the one that bytes are, if they are one
+abbrev pub functionArgs : Span → Reader Span
+functionArgs name = tag (ascii "(") (until (code ")") (λ n. done name))
+
+abbrev pub functionBy : List ℕ → Outcome Span → FnPointerField
+functionBy s (read name next) = FnPointerField.Is (declaratorOf name (onwards s next) FieldInfo.FnPointer)
+functionBy s (fault f) = FnPointerField.Refused f
+
 unfoldable pub functionOf : List ℕ → FnPointerField
-functionOf s =
-    elim (isFunction s) [ true ↦ FnPointerField.Is (declaratorOf (2, nameClosed s - 2) (onwards s (argsClosed s + 1)) FieldInfo.FnPointer) | false ↦ FnPointerField.Refused 2 ]
+unfolding run functionPointer
+functionOf s = functionBy s (run functionPointer s 0)

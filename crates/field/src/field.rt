@@ -1,14 +1,18 @@
 // Declarators: parsers/field.rs of the Rust, on any bytes, with a lent table for the dimensions and with the widths of fields.
 use bytes::Fault;
 use bytes::PointerSize;
+use bytes::cursor::Counted;
+use bytes::cursor::Cursor;
+use bytes::cursor::Moved;
 use bytes::cursor::before;
 use bytes::cursor::stands_at;
 ghost use mathlib.Core.Path.{_≡_};
 ghost use Prim.Native.Nat.{_≤_};
 ghost use mathlib.Core.List.{_++_};
 ghost use lib.ListN.{length, drop};
+ghost use Rattle.bytes.specs.Reader.{run};
 ghost use Rattle.field.specs.Declarators as rules;
-ghost use Rattle.field.specs.Helpers.{timesOf, decimalOf, groupOf, finish, leading, scanOf, functionOf, plainKind, arrayKind};
+ghost use Rattle.field.specs.Helpers.{timesOf, decimalOf, groupOf, finish, leading, scanOf, functionArgs, functionBy, functionOf, plainKind, arrayKind};
 ghost use Rattle.field.specs.Calls as calls;
 
 /// An offset in the bytes handed in, and a length.
@@ -49,10 +53,10 @@ pub enum ParsedField {
     DimensionTableTooShort(usize),
 }
 
-/// What fn_pointer answers: the declarator, or refusal 2.
+/// What fn_pointer answers: the declarator, or why the bytes are no function pointer, and where in them.
 pub enum FnPointerField {
     Is(Declarator),
-    Refused(u64),
+    Refused(Fault),
 }
 
 /// What width answers: the number of bytes, or refusal 15 or 10.
@@ -247,34 +251,37 @@ fn stars(name: &[u8]) -> usize
     i
 }
 
+// A function pointer from its second part on; the first has this place.
+fn function_args(name: &[u8], place: Span, c: Cursor) -> FnPointerField
+    ensures { λ r. ⌜ r ≡ functionBy (now (name .entry)) (run (functionArgs (place .at, place .len)) (now (name .entry)) (c .at)) ⌝ }
+{
+    match c.mark(name, b"(") {
+        Moved::Stopped(f) => FnPointerField::Refused(f),
+        Moved::To(args) => match args.until(name, b')') {
+            Counted::Stopped(f) => FnPointerField::Refused(f),
+            Counted::Is(_, rest) => FnPointerField::Is(Declarator {
+                name: place,
+                rest: Span {
+                    at: rest.at,
+                    len: name.len() - rest.at,
+                },
+                kind: FieldInfo::FnPointer,
+            }),
+        },
+    }
+}
+
 fn function_pointer(name: &[u8]) -> FnPointerField
     ensures { λ r. ⌜ r ≡ functionOf (now (name .entry)) ⌝ }
 {
-    if !stands_at(name, 0, b"(*") {
-        return FnPointerField::Refused(Fault::MALFORMED);
-    }
-    let close = first(name, b')', 2);
-    if name.len() <= close {
-        return FnPointerField::Refused(Fault::MALFORMED);
-    }
-    if !stands_at(name, close + 1, b"(") {
-        return FnPointerField::Refused(Fault::MALFORMED);
-    }
-    let end = first(name, b')', close + 2);
-    if name.len() <= end {
-        return FnPointerField::Refused(Fault::MALFORMED);
-    }
-    FnPointerField::Is(Declarator {
-        name: Span {
-            at: 2,
-            len: close - 2,
+    let start = Cursor { at: 0 };
+    match start.mark(name, b"(*") {
+        Moved::Stopped(f) => FnPointerField::Refused(f),
+        Moved::To(from) => match from.until(name, b')') {
+            Counted::Stopped(f) => FnPointerField::Refused(f),
+            Counted::Is(len, next) => function_args(name, Span { at: from.at, len }, next),
         },
-        rest: Span {
-            at: end + 1,
-            len: name.len() - (end + 1),
-        },
-        kind: FieldInfo::FnPointer,
-    })
+    }
 }
 
 fn plain_kind(indirection_count: usize) -> FieldInfo
@@ -347,7 +354,7 @@ fn scanned(name: &[u8]) -> Scan
     }
 }
 
-/// A function pointer, or refusal 2.
+/// A function pointer, or why the bytes are none, and where in them.
 pub fn fn_pointer(name: &[u8]) -> FnPointerField
     ensures { λ r. ⌜ calls.«field::fn_pointer» (now (name .entry)) r ⌝ }
 {

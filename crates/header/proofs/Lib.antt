@@ -3,6 +3,7 @@ pub mod Versions
 pub mod Lengths
 pub mod Headers
 pub mod Own
+pub mod Cutting
 pub mod Lossless
 pub mod Refusing
 pub mod Examples

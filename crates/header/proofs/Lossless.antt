@@ -1,27 +1,25 @@
 -- The papers and the outcomes of the answers lose nothing: two answers that are told alike are the same answer.
 use Prim.Native.Nat.{ℕ}
-use mathlib.Core.List.{[], _∷_, _++_}
-use mathlib.Core.Path.{_≡_, refl, _∙_, ap}
+use mathlib.Core.List.{[], _∷_}
+use mathlib.Core.Path.{_≡_, refl, sym, _∙_, ap}
 use Rattle.bytes.specs.declared.Endianness.{Endianness}
 use Rattle.bytes.specs.declared.Endianness.the-variants.{Little, Big}
 use Rattle.bytes.specs.declared.Fault.{Fault}
 use Rattle.bytes.specs.declared.PointerSize.{PointerSize}
 use Rattle.bytes.specs.declared.PointerSize.the-variants.{Bits32, Bits64}
-use Rattle.bytes.specs.Paper.Paper.{accepts, refuses}
 use Rattle.bytes.specs.PointerSize.{pointerBytes}
 use Rattle.bytes.specs.Reader.{Outcome}
 use Rattle.bytes.specs.Reader.Outcome.{read, fault}
-use Rattle.bytes.specs.Refusals.{paperFault}
-use Rattle.bytes.specs.declared.Fault.the-variants.{Cut, Mark, Refusal}
-use Rattle.bytes.proofs.Lossless.{at-one}
+use Rattle.bytes.proofs.Lossless.{at-one, whole-fault, whole-told}
 use Rattle.header.specs.declared.FileFormat.{FileFormat}
 use Rattle.header.specs.declared.FileFormat.the-variants.{Legacy, New}
 use Rattle.header.specs.declared.Header.{Header}
+use Rattle.header.specs.declared.Version.{Version}
 use Rattle.header.specs.declared.blend.PointerSizeRead.{PointerSizeRead}
 use Rattle.header.specs.declared.blend.EndiannessRead.{EndiannessRead}
 use Rattle.header.specs.declared.blend.VersionRead.{VersionRead}
 use Rattle.header.specs.declared.blend.HeaderAnswer.{HeaderAnswer}
-use Rattle.header.specs.Header.{pointerSizeRead, endiannessRead, versionRead, edition, order, headerNumbers, headerAs, paperHeader}
+use Rattle.header.specs.Header.{pointerSizeRead, endiannessRead, versionRead, edition, order, headerAs, paperHeader, paperPointerSize, paperEndianness, paperVersion}
 
 edition-one : (f g : FileFormat) → edition f ≡ edition g → f ≡ g
 edition-one Legacy Legacy e = refl
@@ -78,17 +76,36 @@ pub whole-header : (a b : HeaderAnswer) → paperHeader a ≡ paperHeader b → 
 whole-header (HeaderAnswer.Is h n) (HeaderAnswer.Is k m) e = cc (header-one h k (cc) (cc) (cc) (cc) (cc))
 whole-header (HeaderAnswer.Is h n) (HeaderAnswer.Refused m) e = cc
 whole-header (HeaderAnswer.Refused n) (HeaderAnswer.Is k m) e = cc
-whole-header (HeaderAnswer.Refused n) (HeaderAnswer.Refused m) e = cc
-
-no-refusal : (h : Header) (at : ℕ) (x : Fault) → accepts 0 (headerNumbers h ++ (at ∷ [])) ≡ paperFault x → _≡_ {A = Outcome Header} (fault x) (read h at)
-no-refusal h at (Cut n) e = cc
-no-refusal h at (Mark n) e = cc
-no-refusal h at (Refusal n) e = cc
+whole-header (HeaderAnswer.Refused x) (HeaderAnswer.Refused y) e = ap HeaderAnswer.Refused (whole-fault x y e)
 
 pub header-known : (h : Header) (at : ℕ) (o : Outcome Header) → paperHeader (HeaderAnswer.Is h at) ≡ headerAs o → o ≡ read h at
 header-known h at (read k m) e = cc (header-one h k (cc) (cc) (cc) (cc) (cc))
-header-known h at (fault x) e = no-refusal h at x e
+header-known h at (fault x) e = cc
 
-pub header-refused : (n : ℕ) (o : Outcome Header) → paperHeader (HeaderAnswer.Refused n) ≡ headerAs o → (x : Fault) × (o ≡ fault x) × (refuses n [] ≡ paperFault x)
-header-refused n (read k m) e = (Cut 0, cc, cc)
-header-refused n (fault x) e = (x, refl, e)
+pub header-refused : (x : Fault) (o : Outcome Header) → paperHeader (HeaderAnswer.Refused x) ≡ headerAs o → o ≡ fault x
+header-refused x (read k m) e = cc
+header-refused x (fault y) e =
+    let stop : Fault → Outcome Header = fault in
+    ap stop (whole-fault y x (sym e))
+
+-- and what its parts are told as
+one-pointer : (p q : PointerSize) → (pointerBytes p ∷ []) ≡ (pointerBytes q ∷ []) → p ≡ q
+one-pointer p q e = pointer-one p q (cc)
+
+one-order : (a b : Endianness) → (order a ∷ []) ≡ (order b ∷ []) → a ≡ b
+one-order a b e = order-one a b (cc)
+
+one-version : (v w : Version) → (v .major ∷ v .minor ∷ []) ≡ (w .major ∷ w .minor ∷ []) → v ≡ w
+one-version v w e =
+    let a : v .major ≡ w .major = cc in
+    let b : v .minor ≡ w .minor = cc in
+    ap (λ (n : ℕ). record { major = n; minor = v .minor }) a ∙ ap (λ (n : ℕ). record { major = w .major; minor = n }) b
+
+pub paper-pointer-size : (a b : PointerSizeRead) → paperPointerSize a ≡ paperPointerSize b → a ≡ b
+paper-pointer-size a b e = whole-pointer-size a b (whole-told (λ p. pointerBytes p ∷ []) one-pointer (pointerSizeRead a) (pointerSizeRead b) e)
+
+pub paper-endianness : (a b : EndiannessRead) → paperEndianness a ≡ paperEndianness b → a ≡ b
+paper-endianness a b e = whole-endianness a b (whole-told (λ o. order o ∷ []) one-order (endiannessRead a) (endiannessRead b) e)
+
+pub paper-version : (a b : VersionRead) → paperVersion a ≡ paperVersion b → a ≡ b
+paper-version a b e = whole-version a b (whole-told (λ v. v .major ∷ v .minor ∷ []) one-version (versionRead a) (versionRead b) e)

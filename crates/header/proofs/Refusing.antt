@@ -1,7 +1,8 @@
--- Why a header is not read is a cut, a wrong mark, or a refusal whose number is not 0: so a number 0 can tell that it was read.
-use Prim.Native.Nat.{ℕ}
+-- Why a header is not read is a cut, a wrong mark, or a refusal whose number is one of 1 and 3 to 6: so a number 0 can tell that it was read, 16 and 17 tell of cuts and marks
+-- alone, and 2 is given by none.
+use Prim.Native.Nat.{ℕ, _<_}
 use mathlib.Core.List.{List, [], _∷_}
-use mathlib.Core.Path.{_≡_, refl, _∙_, ap}
+use mathlib.Core.Path.{_≡_, _∙_, ap}
 use native.Mathlib.Omega.{arith}
 use lib.ListN.{drop}
 use Rattle.bytes.specs.declared.Fault.{Fault}
@@ -19,7 +20,7 @@ use Rattle.header.specs.Header.Part.{pointerSize, byteOrder, unchecked, 
 use Rattle.header.specs.Header.{Part, parts, withPointer, withOrder, withUnchecked, withVersion, partsRead, untold, HeaderBytes, pointerMark, orderMark, legacy, new, headerBytes}
 
 abbrev pub Counts : ℕ → Type 0
-Counts n = n ≡ 0 → ⊥
+Counts n = (0 < n) × (n < 7) × (n ≡ 2 → ⊥)
 
 -- the header's tree, and a block's
 pointer-gives : {B : Type 0} (k : PointerSize → Reader B) → ((p : PointerSize) → Gives Counts (k p)) → Gives Counts (pointerMark k)
@@ -38,10 +39,10 @@ parts-give (version n ∷ ps) b = λ v. parts-give ps (withVersion b v)
 
 pub header-gives : Gives Counts headerBytes
 unfolding headerBytes legacy new
-header-gives = ((parts-give (drop 1 (parts Legacy)) (untold Legacy Bits32), (parts-give (drop 1 (parts Legacy)) (untold Legacy Bits64), parts-give (parts New) (untold New Bits32))), λ e. omega arith)
+header-gives = ((parts-give (drop 1 (parts Legacy)) (untold Legacy Bits32), (parts-give (drop 1 (parts Legacy)) (untold Legacy Bits64), parts-give (parts New) (untold New Bits32))), (omega arith, omega arith, λ e. omega arith))
 
 abbrev pub Told : Fault → Type 0
-Told x = x ≡ Refusal 0 → ⊥
+Told x = (n : ℕ) → x ≡ Refusal n → Counts n
 
 pub stop-told : {A : Type 0} (o : Outcome A) → ((n : ℕ) → o ≡ fault (Refusal n) → Counts n) → (x : Fault) → o ≡ fault x → Told x
-stop-told o f x e z = f 0 (e ∙ ap fault z) refl
+stop-told o f x e n z = f n (e ∙ ap fault z)

@@ -3,6 +3,7 @@ use Prim.Native.Nat.{ℕ}
 use mathlib.Core.List.{List}
 use mathlib.Core.Path.{_≡_}
 use Rattle.bytes.specs.declared.Endianness.{Endianness}
+use Rattle.bytes.specs.declared.Fault.{Fault}
 use Rattle.bytes.specs.declared.PointerSize.{PointerSize}
 use Rattle.bytes.specs.declared.cursor.Cursor.{Cursor}
 use Rattle.bytes.specs.Reader.{run}
@@ -14,7 +15,7 @@ use Rattle.header.specs.declared.blend.PointerSizeRead.{PointerSizeRead}
 use Rattle.header.specs.declared.blend.EndiannessRead.{EndiannessRead}
 use Rattle.header.specs.declared.blend.VersionRead.{VersionRead}
 use Rattle.header.specs.declared.blend.HeaderAnswer.{HeaderAnswer}
-use Rattle.header.specs.Header.{headerLength, pointerMark, orderMark, versionOf, headerBytes, valued, pointerSizeRead, endiannessRead, versionRead, headerAs, paperHeader, refusalOf}
+use Rattle.header.specs.Header.{headerLength, pointerMark, orderMark, versionOf, headerBytes, valued, pointerSizeRead, endiannessRead, versionRead, headerAs, paperHeader, faultOf}
 use Rattle.header.specs.Layout.{blockHeaderLength}
 
 abbrev pub «FileFormat::header_len» : (self : FileFormat) → ℕ → Type 0
@@ -38,5 +39,5 @@ abbrev pub «blend::version» : (c : Cursor) (s : List ℕ) → VersionRead → 
 abbrev pub «blend::header» : (file : List ℕ) → HeaderAnswer → Type 0
 «blend::header» file r = paperHeader r ≡ headerAs (valued (run headerBytes file 0))
 
-abbrev pub «blend::refusal_of» : (answer : HeaderAnswer) → ℕ → Type 0
-«blend::refusal_of» answer r = r ≡ refusalOf answer
+abbrev pub «blend::refusal_of» : (answer : HeaderAnswer) → Fault → Type 0
+«blend::refusal_of» answer r = r ≡ faultOf answer

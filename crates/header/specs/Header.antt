@@ -6,17 +6,19 @@ use mathlib.Core.List.{List, [], _∷_, _++_}
 use lib.ListN.{length, drop}
 use Rattle.bytes.specs.declared.Endianness.{Endianness}
 use Rattle.bytes.specs.declared.Endianness.the-variants.{Little, Big}
+use Rattle.bytes.specs.declared.Fault.{Fault}
+use Rattle.bytes.specs.declared.Fault.the-variants.{Refusal}
 use Rattle.bytes.specs.declared.PointerSize.{PointerSize}
 use Rattle.bytes.specs.declared.PointerSize.the-variants.{Bits32, Bits64}
 use Rattle.bytes.specs.Ascii.{ascii, isDigit}
 use Rattle.bytes.specs.Number.{tag}
 use Rattle.bytes.specs.Paper.{Paper}
-use Rattle.bytes.specs.Paper.Paper.{accepts, refuses}
+use Rattle.bytes.specs.Paper.Paper.{accepts}
 use Rattle.bytes.specs.PointerSize.{pointerBytes}
 use Rattle.bytes.specs.Reader.{Reader, Outcome}
 use Rattle.bytes.specs.Reader.Reader.{done, refuse, bytes, begins}
 use Rattle.bytes.specs.Reader.Outcome.{read, fault}
-use Rattle.bytes.specs.Refusals.{compressedFileNotSupported, paperFault}
+use Rattle.bytes.specs.Refusals.{compressedFileNotSupported, paperFault, told}
 use Rattle.header.specs.declared.FileFormat.{FileFormat}
 use Rattle.header.specs.declared.FileFormat.the-variants.{Legacy, New}
 use Rattle.header.specs.declared.Version.{Version}
@@ -160,14 +162,23 @@ abbrev pub headerNumbers : Header → List ℕ
 headerNumbers h = edition (h .format) ∷ pointerBytes (h .«pointer_size») ∷ order (h .endianness) ∷ h .version .major ∷ h .version .minor ∷ []
 
 abbrev pub headerAs : Outcome Header → Paper
-headerAs (read h next) = accepts 0 (headerNumbers h ++ (next ∷ []))
-headerAs (fault f) = paperFault f
+headerAs o = told headerNumbers o
 
 abbrev pub paperHeader : HeaderAnswer → Paper
 paperHeader (HeaderAnswer.Is h at) = accepts 0 (headerNumbers h ++ (at ∷ []))
-paperHeader (HeaderAnswer.Refused n) = refuses n []
+paperHeader (HeaderAnswer.Refused f) = paperFault f
 
--- the number of a header's refusal, 0 where it is none
-abbrev pub refusalOf : HeaderAnswer → ℕ
-refusalOf (HeaderAnswer.Is h at) = 0
-refusalOf (HeaderAnswer.Refused n) = n
+-- the papers of the answers about its parts: the pointer's bytes, the order, and major and minor
+abbrev pub paperPointerSize : PointerSizeRead → Paper
+paperPointerSize r = told (λ p. pointerBytes p ∷ []) (pointerSizeRead r)
+
+abbrev pub paperEndianness : EndiannessRead → Paper
+paperEndianness r = told (λ e. order e ∷ []) (endiannessRead r)
+
+abbrev pub paperVersion : VersionRead → Paper
+paperVersion r = told (λ v. v .major ∷ v .minor ∷ []) (versionRead r)
+
+-- why a header is refused, and where; the refusal 0, which no call gives, where it is not
+abbrev pub faultOf : HeaderAnswer → Fault
+faultOf (HeaderAnswer.Is h at) = Refusal 0
+faultOf (HeaderAnswer.Refused f) = f

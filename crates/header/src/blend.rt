@@ -39,10 +39,10 @@ enum HeaderRead {
     Stopped(Fault),
 }
 
-/// A file's header and its length, or the number of the refusal.
+/// A file's header and its length, or why it is refused, and where.
 pub enum HeaderAnswer {
     Is(Header, usize),
-    Refused(u64),
+    Refused(Fault),
 }
 
 /// The pointer mark at a place: `_` is 32 bits, `-` 64.
@@ -141,7 +141,7 @@ fn new(c: Cursor, s: &[u8]) -> HeaderRead
     }
 }
 
-// A file's header, with the fault as the tree has it.
+// A file's header and the place after it.
 fn header_in(s: &[u8]) -> HeaderRead
     ensures { λ r. ⌜ headerRead r ≡ headers.valued (run headers.headerBytes (now (s .entry)) 0) ⌝ }
 {
@@ -165,22 +165,22 @@ fn header_in(s: &[u8]) -> HeaderRead
     }
 }
 
-/// A file's header and its length, or the number of the refusal.
+/// A file's header and its length, or why it is refused, and where.
 pub fn header(file: &[u8]) -> HeaderAnswer
     ensures { λ r. ⌜ calls.«blend::header» (now (file .entry)) r ⌝ }
 {
     match header_in(file) {
         HeaderRead::Is(h, c) => HeaderAnswer::Is(h, c.at),
-        HeaderRead::Stopped(f) => HeaderAnswer::Refused(f.refusal()),
+        HeaderRead::Stopped(f) => HeaderAnswer::Refused(f),
     }
 }
 
-/// The number of a header's refusal, 0 where it is none.
-pub fn refusal_of(answer: HeaderAnswer) -> u64
+/// Why a header is refused, and where; the refusal 0 where it is not.
+pub fn refusal_of(answer: HeaderAnswer) -> Fault
     ensures { λ r. ⌜ calls.«blend::refusal_of» answer r ⌝ }
 {
     match answer {
-        HeaderAnswer::Is(_, _) => 0,
-        HeaderAnswer::Refused(n) => n,
+        HeaderAnswer::Is(_, _) => Fault::Refusal(0),
+        HeaderAnswer::Refused(f) => f,
     }
 }

@@ -53,7 +53,7 @@ use Rattle.index.proofs as index
 use Rattle.held.proofs as held
 use Rattle.exports.proofs as exports
 use Rattle.demands.proofs as demands
-use Rattle.bytes.proofs.Lossless.{at-one, one-refusal, whole-numbered, whole-moved, whole-counted, whole-begun}
+use Rattle.bytes.proofs.Lossless.{at-one, whole-numbered, whole-moved, whole-counted, whole-begun}
 use Rattle.primitive.proofs.Lossless.{whole-u8, whole-u16, whole-u32, whole-u64, whole-i8, whole-i16, whole-i32, whole-i64, whole-f32, whole-f64}
 use Rattle.field.proofs.Lossless.{whole-field, whole-function, whole-width}
 use Rattle.dna.proofs.Lossless.{one-filling, whole-counted as wholeCountedDna}
@@ -66,7 +66,7 @@ use Rattle.runtime.proofs.Lossless.{whole-view, whole-pointer, whole-code}
 use Rattle.held.specs.declared.Walker.{Walker}
 use Rattle.promises.specs.Keeps.{Says, Keeps, Holds}
 use Rattle.promises.specs.Calls.{PublicCall, Refused, Nonzero, publicCall}
-use Rattle.promises.specs.Calls.PublicCall.{«bytes::PointerSize::bytes_num», «bytes::Fault::refusal», «bytes::cursor::Width::bytes_num», «bytes::cursor::stands_at», «bytes::cursor::before», «bytes::cursor::Cursor::new», «bytes::cursor::Cursor::number», «bytes::cursor::Cursor::skip», «bytes::cursor::Cursor::bytes», «bytes::cursor::Cursor::part», «bytes::cursor::Cursor::mark», «bytes::cursor::Cursor::begins», «bytes::cursor::Cursor::string», «primitive::primitive::parse_u8», «primitive::primitive::parse_u16», «primitive::primitive::parse_u32», «primitive::primitive::parse_u64», «primitive::primitive::parse_char», «primitive::primitive::parse_i8», «primitive::primitive::parse_i16», «primitive::primitive::parse_i32», «primitive::primitive::parse_i64», «primitive::primitive::parse_f32», «primitive::primitive::parse_f64», «primitive::primitive::blender_name_char», «primitive::primitive::blender_name_i8», «primitive::primitive::blender_name_u8», «primitive::primitive::blender_name_u16», «primitive::primitive::blender_name_i16», «primitive::primitive::blender_name_i32», «primitive::primitive::blender_name_u32», «primitive::primitive::blender_name_f32», «primitive::primitive::blender_name_f64», «primitive::primitive::blender_name_u64», «primitive::primitive::blender_name_i64», «field::field::fn_pointer», «field::field::scan_field», «field::field::parse_field», «field::field::width», «dna::dna::dna_counts», «dna::dna::dna», «header::FileFormat::header_len», «header::FileFormat::block_header_len», «header::Header::new», «block::BlockHeader::new», «block::Kind::of_code», «block::About::new», «block::Kind::about», «header::blend::pointer_size», «header::blend::endianness», «header::blend::version», «header::blend::header», «header::blend::refusal_of», «block::blend::block_header_code», «block::blend::block_header», «block::blend::header_in», «blend::blend::boundary_at», «blend::blend::blend», «walker::Place::start», «walker::Place::step», «runtime::runtime::view», «runtime::runtime::view_part», «runtime::runtime::matches», «runtime::runtime::get_ptr», «runtime::runtime::code», «index::index::build», «index::index::find», «held::step_at», «held::over», «held::next», «held::moved», «held::step_from», «held::row_is», «held::find_row», «held::find_in», «exports::blend_header», «exports::blend_read», «exports::blend_catalogue», «exports::blend_field», «exports::blend_width», «exports::blend_view», «exports::blend_lookup», «exports::blend_index», «exports::blend_find», «exports::blend_u8», «exports::blend_u16», «exports::blend_u32», «exports::blend_u64», «demands::read», «demands::read_two»}
+use Rattle.promises.specs.Calls.PublicCall.{«bytes::PointerSize::bytes_num», «bytes::Fault::refusal», «bytes::Fault::place», «bytes::cursor::Width::bytes_num», «bytes::cursor::stands_at», «bytes::cursor::before», «bytes::cursor::Cursor::new», «bytes::cursor::Cursor::number», «bytes::cursor::Cursor::skip», «bytes::cursor::Cursor::bytes», «bytes::cursor::Cursor::part», «bytes::cursor::Cursor::mark», «bytes::cursor::Cursor::begins», «bytes::cursor::Cursor::until», «bytes::cursor::Cursor::string», «primitive::primitive::parse_u8», «primitive::primitive::parse_u16», «primitive::primitive::parse_u32», «primitive::primitive::parse_u64», «primitive::primitive::parse_char», «primitive::primitive::parse_i8», «primitive::primitive::parse_i16», «primitive::primitive::parse_i32», «primitive::primitive::parse_i64», «primitive::primitive::parse_f32», «primitive::primitive::parse_f64», «primitive::primitive::blender_name_char», «primitive::primitive::blender_name_i8», «primitive::primitive::blender_name_u8», «primitive::primitive::blender_name_u16», «primitive::primitive::blender_name_i16», «primitive::primitive::blender_name_i32», «primitive::primitive::blender_name_u32», «primitive::primitive::blender_name_f32», «primitive::primitive::blender_name_f64», «primitive::primitive::blender_name_u64», «primitive::primitive::blender_name_i64», «field::field::fn_pointer», «field::field::scan_field», «field::field::parse_field», «field::field::width», «dna::dna::dna_counts», «dna::dna::dna», «header::FileFormat::header_len», «header::FileFormat::block_header_len», «header::Header::new», «block::BlockHeader::new», «block::Kind::of_code», «block::About::new», «block::Kind::about», «header::blend::pointer_size», «header::blend::endianness», «header::blend::version», «header::blend::header», «header::blend::refusal_of», «block::blend::block_header_code», «block::blend::block_header», «block::blend::header_in», «blend::blend::boundary_at», «blend::blend::blend», «walker::Place::start», «walker::Place::step», «runtime::runtime::view», «runtime::runtime::view_part», «runtime::runtime::matches», «runtime::runtime::get_ptr», «runtime::runtime::code», «index::index::build», «index::index::find», «held::step_at», «held::over», «held::next», «held::moved», «held::step_from», «held::row_is», «held::find_row», «held::find_in», «exports::blend_header», «exports::blend_read», «exports::blend_step», «exports::blend_catalogue», «exports::blend_field», «exports::blend_width», «exports::blend_view», «exports::blend_lookup», «exports::blend_index», «exports::blend_find», «exports::blend_u8», «exports::blend_u16», «exports::blend_u32», «exports::blend_u64», «demands::read», «demands::read_two»}
 
 -- of a function whose contract has a second clause besides, the first is kept
 module _ (T : Ended) (code : Routine) (says : Says T)
@@ -157,7 +157,8 @@ index-unwritten t rows buckets heads links r heads′ links′ x z =
 
 pub every : (c : PublicCall) → Holds (publicCall c)
 every «bytes::PointerSize::bytes_num» = record { keeps = first-kept bytes.PointerSize.bytes_num.ended bytes.PointerSize.bytes_num.Symbol.routine (λ κs a r e. «PointerSize::bytes_num» (a .0) r) (λ M 𝓤 H 𝓜 𝓖 𝓡 κs a r e. bytes.PointerSize.bytes_num.ensures-constants 𝓤 H κs (𝓖 .A) (𝓜 .mem) (𝓡 .run) (a .0) (record { entry = a .0; exit = e .0 }) r) (λ M. bytes.PointerSize.bytes_num.Met.met); one = λ κs a r q ws vs x y. (x ∙ sym y, refl) }
-every «bytes::Fault::refusal» = record { keeps = λ M. bytes.Fault.refusal.Met.met; one = λ κs a r q ws vs x y. (one-refusal r q (x ∙ sym y), refl) }
+every «bytes::Fault::refusal» = record { keeps = λ M. bytes.Fault.refusal.Met.met; one = λ κs a r q ws vs x y. (x ∙ sym y, refl) }
+every «bytes::Fault::place» = record { keeps = λ M. bytes.Fault.place.Met.met; one = λ κs a r q ws vs x y. (x ∙ sym y, refl) }
 every «bytes::cursor::Width::bytes_num» = record { keeps = λ M. bytes.cursor.Width.bytes_num.Met.met; one = λ κs a r q ws vs x y. (x ∙ sym y, refl) }
 every «bytes::cursor::stands_at» = record { keeps = λ M. bytes.cursor.stands_at.Met.met; one = λ κs a r q ws vs x y. (x ∙ sym y, refl) }
 every «bytes::cursor::before» = record { keeps = λ M. bytes.cursor.before.Met.met; one = λ κs a r q ws vs x y. (x ∙ sym y, refl) }
@@ -168,6 +169,7 @@ every «bytes::cursor::Cursor::bytes» = record { keeps = λ M. bytes.cursor.Cur
 every «bytes::cursor::Cursor::part» = record { keeps = λ M. bytes.cursor.Cursor.part.Met.met; one = λ κs a r q ws vs x y. (x ∙ sym y, refl) }
 every «bytes::cursor::Cursor::mark» = record { keeps = λ M. bytes.cursor.Cursor.mark.Met.met; one = λ κs a r q ws vs x y. (whole-moved r q (x ∙ sym y), refl) }
 every «bytes::cursor::Cursor::begins» = record { keeps = λ M. bytes.cursor.Cursor.begins.Met.met; one = λ κs a r q ws vs x y. (whole-begun r q (x ∙ sym y), refl) }
+every «bytes::cursor::Cursor::until» = record { keeps = λ M. bytes.cursor.Cursor.until.Met.met; one = λ κs a r q ws vs x y. (whole-counted r q (x ∙ sym y), refl) }
 every «bytes::cursor::Cursor::string» = record { keeps = λ M. bytes.cursor.Cursor.string.Met.met; one = λ κs a r q ws vs x y. (whole-counted r q (x ∙ sym y), refl) }
 every «primitive::primitive::parse_u8» = record { keeps = λ M. primitive.primitive.parse_u8.Met.met; one = λ κs a r q ws vs x y. (whole-u8 r q (x ∙ sym y), refl) }
 every «primitive::primitive::parse_u16» = record { keeps = λ M. primitive.primitive.parse_u16.Met.met; one = λ κs a r q ws vs x y. (whole-u16 r q (x ∙ sym y), refl) }
@@ -200,7 +202,7 @@ every «field::field::parse_field» =
       nothing = λ κs a r ws x f. unwritten _ _ _ _ _ (x .0) (x .1) f;
     }
 every «field::field::width» = record { keeps = λ M. field.field.width.Met.met; one = λ κs a r q ws vs x y. (whole-width r q (x ∙ sym y), refl) }
-every «dna::dna::dna_counts» = record { keeps = λ M. dna.dna.dna_counts.Met.met; one = λ κs a r q ws vs x y. (wholeCountedDna r q (x .1 ∙ sym (y .1)), refl) }
+every «dna::dna::dna_counts» = record { keeps = λ M. dna.dna.dna_counts.Met.met; one = λ κs a r q ws vs x y. (wholeCountedDna r q (x ∙ sym y), refl) }
 every «dna::dna::dna» =
     record {
       keeps = λ M. dna.dna.dna.Met.met;
@@ -262,6 +264,7 @@ every «exports::blend_read» =
       one = λ κs a r q ws vs x y. (x .0 ∙ sym (y .0), lent (ws .1 .0) (vs .1 .0) (x .1 ∙ sym (y .1)));
       nothing = λ κs a r ws x f. read-unwritten (now (a .0)) (now (a .1 .0)) r (ws .1 .0) x f;
     }
+every «exports::blend_step» = record { keeps = λ M. exports.blend_step.Met.met; one = λ κs a r q ws vs x y. (x ∙ sym y, refl) }
 every «exports::blend_catalogue» =
     record {
       keeps = λ M. exports.blend_catalogue.Met.met;

@@ -6,6 +6,9 @@ use Rattle.demands.proofs.Walked.{every-block-walked, every-block-held, no-othe
 use Rattle.demands.proofs.Indexes.{index-as-plain}
 use Rattle.demands.proofs.Sentences.{walks-as-read, held-walks-as-read, one-search, float-bits-read, code-bytes, names}
 use Rattle.demands.proofs.Widths.{broken-names, widths-exported}
+use Rattle.demands.proofs.Malformed.{where-two-was}
+use Rattle.demands.proofs.CutUpload.{cut-upload}
+use Rattle.demands.proofs.Steps.{papers-lose-nothing, steps-exported}
 use Rattle.demands.proofs.Examples.{at-the-edges, scenes-are-read}
 use Rattle.promises.specs.Promises.{Promises}
 use Rattle.promises.proofs.Calls.{every}
@@ -28,6 +31,10 @@ promises =
       index-as-plain = index-as-plain;
       broken-names = broken-names;
       widths-exported = widths-exported;
+      where-two-was = where-two-was;
+      cut-upload = cut-upload;
+      papers-lose-nothing = papers-lose-nothing;
+      steps-exported = steps-exported;
       float-bits = float-bits-read;
       code-bytes = code-bytes;
       names = names;

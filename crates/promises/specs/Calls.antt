@@ -6,7 +6,7 @@ use mathlib.Core.Path.{_≡_}
 use denote.Ref.{now}
 use Rattle.bytes.specs.Paper.{Paper}
 use Rattle.bytes.specs.Paper.Paper.{refuses}
-use Rattle.bytes.specs.Calls.{«Fault::refusal», «PointerSize::bytes_num», «cursor::Width::bytes_num», «cursor::stands_at», «cursor::before», «cursor::Cursor::new», «cursor::Cursor::number», «cursor::Cursor::skip», «cursor::Cursor::bytes», «cursor::Cursor::part», «cursor::Cursor::mark», «cursor::Cursor::begins», «cursor::Cursor::string»}
+use Rattle.bytes.specs.Calls.{«Fault::refusal», «Fault::place», «PointerSize::bytes_num», «cursor::Width::bytes_num», «cursor::stands_at», «cursor::before», «cursor::Cursor::new», «cursor::Cursor::number», «cursor::Cursor::skip», «cursor::Cursor::bytes», «cursor::Cursor::part», «cursor::Cursor::mark», «cursor::Cursor::begins», «cursor::Cursor::until», «cursor::Cursor::string»}
 use Rattle.primitive.specs.Calls.{«primitive::parse_u8», «primitive::parse_u16», «primitive::parse_u32», «primitive::parse_u64», «primitive::parse_char», «primitive::parse_i8», «primitive::parse_i16», «primitive::parse_i32», «primitive::parse_i64», «primitive::parse_f32», «primitive::parse_f64», «primitive::blender_name_char», «primitive::blender_name_i8», «primitive::blender_name_u8», «primitive::blender_name_u16», «primitive::blender_name_i16», «primitive::blender_name_i32», «primitive::blender_name_u32», «primitive::blender_name_f32», «primitive::blender_name_f64», «primitive::blender_name_u64», «primitive::blender_name_i64»}
 use Rattle.field.specs.Calls.{«field::fn_pointer», «field::scan_field», «field::parse_field», «field::width»}
 use Rattle.dna.specs.Calls.{«dna::dna_counts», «dna::dna»}
@@ -17,7 +17,7 @@ use Rattle.walker.specs.Calls.{«Place::start», «Place::step»}
 use Rattle.runtime.specs.Calls.{«runtime::view», «runtime::view_part», «runtime::matches», «runtime::get_ptr», «runtime::code»}
 use Rattle.index.specs.Calls.{«index::build», «index::find»}
 use Rattle.held.specs.Calls.{«step_at», «over», «next», «moved», «step_from», «row_is», «find_row», «find_in»}
-use Rattle.exports.specs.Calls.{«blend_header», «blend_read», «blend_catalogue», «blend_field», «blend_width», «blend_view», «blend_lookup», «blend_index», «blend_find», «blend_u8», «blend_u16», «blend_u32», «blend_u64»}
+use Rattle.exports.specs.Calls.{«blend_header», «blend_read», «blend_step», «blend_catalogue», «blend_field», «blend_width», «blend_view», «blend_lookup», «blend_index», «blend_find», «blend_u8», «blend_u16», «blend_u32», «blend_u64»}
 use Rattle.demands.specs.Calls.{«read», «read_two»}
 use Rattle.field.specs.Declarators.{paperField}
 use Rattle.dna.specs.Catalogue.{paperTables}
@@ -42,6 +42,7 @@ use Rattle.promises.specs.Keeps.Public.{call, shows, lends}
 pub data PublicCall : Type 0 where
   «bytes::PointerSize::bytes_num» : PublicCall
   «bytes::Fault::refusal» : PublicCall
+  «bytes::Fault::place» : PublicCall
   «bytes::cursor::Width::bytes_num» : PublicCall
   «bytes::cursor::stands_at» : PublicCall
   «bytes::cursor::before» : PublicCall
@@ -52,6 +53,7 @@ pub data PublicCall : Type 0 where
   «bytes::cursor::Cursor::part» : PublicCall
   «bytes::cursor::Cursor::mark» : PublicCall
   «bytes::cursor::Cursor::begins» : PublicCall
+  «bytes::cursor::Cursor::until» : PublicCall
   «bytes::cursor::Cursor::string» : PublicCall
   «primitive::primitive::parse_u8» : PublicCall
   «primitive::primitive::parse_u16» : PublicCall
@@ -117,6 +119,7 @@ pub data PublicCall : Type 0 where
   «held::find_in» : PublicCall
   «exports::blend_header» : PublicCall
   «exports::blend_read» : PublicCall
+  «exports::blend_step» : PublicCall
   «exports::blend_catalogue» : PublicCall
   «exports::blend_field» : PublicCall
   «exports::blend_width» : PublicCall
@@ -141,6 +144,7 @@ Nonzero n = n ≡ 0 → ⊥
 abbrev pub publicCall : PublicCall → Public
 publicCall «bytes::PointerSize::bytes_num» = call bytes.PointerSize.bytes_num.ended bytes.PointerSize.bytes_num.Symbol.routine (λ κs (self, _) r e. «PointerSize::bytes_num» self r)
 publicCall «bytes::Fault::refusal» = call bytes.Fault.refusal.ended bytes.Fault.refusal.Symbol.routine (λ κs (self, _) r e. «Fault::refusal» self r)
+publicCall «bytes::Fault::place» = call bytes.Fault.place.ended bytes.Fault.place.Symbol.routine (λ κs (self, _) r e. «Fault::place» self r)
 publicCall «bytes::cursor::Width::bytes_num» = call bytes.cursor.Width.bytes_num.ended bytes.cursor.Width.bytes_num.Symbol.routine (λ κs (self, _) r e. «cursor::Width::bytes_num» self r)
 publicCall «bytes::cursor::stands_at» = call bytes.cursor.stands_at.ended bytes.cursor.stands_at.Symbol.routine (λ κs (s, (at, (m, _))) r e. «cursor::stands_at» (now s) at (now m) r)
 publicCall «bytes::cursor::before» = call bytes.cursor.before.ended bytes.cursor.before.Symbol.routine (λ κs (s, (c, _)) r e. «cursor::before» (now s) c r)
@@ -151,6 +155,7 @@ publicCall «bytes::cursor::Cursor::bytes» = call bytes.cursor.Cursor.bytes.end
 publicCall «bytes::cursor::Cursor::part» = shows bytes.cursor.Cursor.part.ended bytes.cursor.Cursor.part.Symbol.routine (λ κs r. now r) (λ κs (self, (s, (n, _))) r e. «cursor::Cursor::part» self (now s) n (now r))
 publicCall «bytes::cursor::Cursor::mark» = call bytes.cursor.Cursor.mark.ended bytes.cursor.Cursor.mark.Symbol.routine (λ κs (self, (s, (m, _))) r e. «cursor::Cursor::mark» self (now s) (now m) r)
 publicCall «bytes::cursor::Cursor::begins» = call bytes.cursor.Cursor.begins.ended bytes.cursor.Cursor.begins.Symbol.routine (λ κs (self, (s, (m, _))) r e. «cursor::Cursor::begins» self (now s) (now m) r)
+publicCall «bytes::cursor::Cursor::until» = call bytes.cursor.Cursor.until.ended bytes.cursor.Cursor.until.Symbol.routine (λ κs (self, (s, (c, _))) r e. «cursor::Cursor::until» self (now s) c r)
 publicCall «bytes::cursor::Cursor::string» = call bytes.cursor.Cursor.string.ended bytes.cursor.Cursor.string.Symbol.routine (λ κs (self, (s, _)) r e. «cursor::Cursor::string» self (now s) r)
 publicCall «primitive::primitive::parse_u8» = call primitive.primitive.parse_u8.ended primitive.primitive.parse_u8.Symbol.routine (λ κs (slice, (endianness, _)) r e. «primitive::parse_u8» (now slice) endianness r)
 publicCall «primitive::primitive::parse_u16» = call primitive.primitive.parse_u16.ended primitive.primitive.parse_u16.Symbol.routine (λ κs (slice, (endianness, _)) r e. «primitive::parse_u16» (now slice) endianness r)
@@ -226,6 +231,7 @@ publicCall «exports::blend_header» = call exports.blend_header.ended exports.b
 publicCall «exports::blend_read» =
     lends exports.blend_read.ended exports.blend_read.Symbol.routine (λ κs (file, (table, _)) r (_, (table′, _)). «blend_read» (now file) (now table) r (now table′))
     (λ κs (_, (table, _)) r (_, (table′, _)). Nonzero (r .refusal) → table′ ≡ now table)
+publicCall «exports::blend_step» = call exports.blend_step.ended exports.blend_step.Symbol.routine (λ κs (file, (at, (dna, _))) r e. «blend_step» (now file) at dna r)
 publicCall «exports::blend_catalogue» =
     lends exports.blend_catalogue.ended exports.blend_catalogue.Symbol.routine (λ κs (payload, (order, (names, (types, (structs, (fields, _)))))) r (_, (_, (names′, (types′, (structs′, (fields′, _)))))). «blend_catalogue» (now payload) order (now names) (now types) (now structs) (now fields) r (now names′) (now types′) (now structs′) (now fields′))
     (λ κs (_, (_, (names, (types, (structs, (fields, _)))))) r (_, (_, (names′, (types′, (structs′, (fields′, _)))))). Nonzero (r .refusal) → (names′ ≡ now names) × (types′ ≡ now types) × (structs′ ≡ now structs) × (fields′ ≡ now fields))

@@ -3,6 +3,7 @@
 use Rattle.demands.specs.Cover.{EveryBlock, EveryBlockExported, EveryBlockWalked, EveryBlockHeld}
 use Rattle.demands.specs.Unaltered.{NoOtherObject, NoOtherObjectExported, NoOtherObjectWalked, NoOtherObjectHeld}
 use Rattle.demands.specs.Sentences.{WalksAsRead, HeldWalksAsRead, OneSearch, IndexAsPlain, BrokenNames, WidthsExported, FloatBits, CodeBytes, Names}
+use Rattle.demands.specs.Malformed.{WhereTwoWas, CutUpload, StepsExported, PapersLoseNothing}
 use Rattle.demands.specs.Examples.{AtTheEdges, ScenesAreRead}
 use Rattle.promises.specs.Keeps.{Holds}
 use Rattle.promises.specs.Calls.{PublicCall, publicCall}
@@ -31,6 +32,12 @@ pub record Promises : Type 2 where
   -- a name that is not fully read has no width, and a whole one the width that it had before that was asked; for other languages too
   pub broken-names : BrokenNames
   pub widths-exported : WidthsExported
+  -- why a file is malformed, and where: 16 and 17 together come where 2 did; a file that is read and then cut is told as cut, never by a wrong mark; nothing of a fault is lost when it
+  -- is told; and for other languages the steps of a walk come to the same rows, and to the same end or fault, as the reading
+  pub where-two-was : WhereTwoWas
+  pub cut-upload : CutUpload
+  pub papers-lose-nothing : PapersLoseNothing
+  pub steps-exported : StepsExported
   -- the bits of a float are those that were read, the bytes of a code those that it was read from, and the names are the Rust's
   pub float-bits : FloatBits
   pub code-bytes : CodeBytes

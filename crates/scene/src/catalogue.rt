@@ -1,5 +1,6 @@
 // The catalogue of a real scene, in both byte orders: the counts, sums of the tables, and what is refused.
 use crate::number;
+use crate::refused;
 use crate::text;
 use bytes::Endianness;
 use dna::dna::DnaCounted;
@@ -26,7 +27,10 @@ fn answer(r: DnaTables) {
             number(b" structs ", n.structs);
             number(b" fields ", n.fields);
         }
-        DnaTables::Refused(_) => text(b" refused 2"),
+        DnaTables::Refused(f) => {
+            text(b" ");
+            refused(f);
+        }
         DnaTables::TableTooShort(which, rows) => {
             number(b" refused 8 ", which);
             number(b" ", rows);
@@ -89,7 +93,10 @@ fn counts(payload: &[u8], order: Endianness) {
             number(b" names ", n.names);
             number(b" end ", end as u64);
         }
-        DnaCounted::Stopped(_) => text(b" refused 2"),
+        DnaCounted::Stopped(f) => {
+            text(b" ");
+            refused(f);
+        }
     }
     text(b"\n");
 }

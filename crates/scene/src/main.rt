@@ -6,6 +6,7 @@ use blend::blend::BlendAnswer;
 use blend::blend::blend;
 use block::Row;
 use bytes::Endianness;
+use bytes::Fault;
 use bytes::PointerSize;
 use dna::dna::DnaCounts;
 use header::FileFormat;
@@ -109,8 +110,13 @@ fn header_numbers(h: Header) {
     number(b" ", version.minor as u64);
 }
 
-fn refused(n: u64) {
-    number(b"refused ", n);
+// A refusal's number and, of 16 and 17, the offset that it carries.
+fn refused(f: Fault) {
+    number(b"refused ", f.refusal());
+    match f {
+        Fault::Refusal(_) => text(b""),
+        _ => number(b" ", f.place() as u64),
+    }
 }
 
 // A header alone, with its length.
@@ -123,7 +129,7 @@ fn header_line(file: &[u8]) {
             number(b"bytes ", len as u64);
             header_numbers(h);
         }
-        HeaderAnswer::Refused(n) => refused(n),
+        HeaderAnswer::Refused(f) => refused(f),
     }
     text(b"\n");
 }
@@ -253,14 +259,13 @@ fn list(answer: BlendAnswer, file: &[u8], table: &[u64]) -> usize {
             text(b"\n");
             rows
         }
-        BlendAnswer::Refused(n) => {
-            refused(n);
+        BlendAnswer::Refused(f) => {
+            refused(f);
             text(b"\n");
             0
         }
         BlendAnswer::TableTooShort(rows) => {
-            refused(7);
-            number(b" ", rows as u64);
+            number(b"refused 7 ", rows as u64);
             text(b"\n");
             0
         }
@@ -341,8 +346,8 @@ fn step_line(label: &[u8], place: Place, file: &[u8]) -> Place {
             number(b"end ", at as u64);
             next
         }
-        Step::Refused(n, next) => {
-            refused(n);
+        Step::Refused(f, next) => {
+            refused(f);
             next
         }
     }

@@ -53,7 +53,7 @@ fn search(space: &mut [u8; SIZE], at: &mut usize, file: &[u8], address: u64) {
             pointer_line(space, at, get_ptr(&table, b.rows, address));
             code_lines(space, at, &table, b.rows);
         }
-        BlendAnswer::Refused(n) => refused_line(space, at, n),
+        BlendAnswer::Refused(f) => refused_line(space, at, f),
         BlendAnswer::TableTooShort(rows) => too_short_line(space, at, rows),
     }
 }

@@ -1,4 +1,5 @@
 // Catalogues: the counts, and a line for each row of the four tables.
+use crate::file::refused_line;
 use crate::out::SIZE;
 use crate::out::byte;
 use crate::out::bytes;
@@ -120,7 +121,10 @@ fn lines(
 fn last(space: &mut [u8; SIZE], at: &mut usize, payload: &[u8], order: Endianness) {
     match dna_counts(payload, order) {
         DnaCounted::Are(_, n) => line(space, at, b" #\n", &[n as u64]),
-        DnaCounted::Stopped(_) => text(space, at, b" refused 2\n"),
+        DnaCounted::Stopped(f) => {
+            text(space, at, b" ");
+            refused_line(space, at, f);
+        }
     }
 }
 
@@ -164,8 +168,8 @@ fn answer_in(
             read_lines(space, at, payload, order, n, names, types, structs, fields);
             true
         }
-        DnaTables::Refused(_) => {
-            text(space, at, b"refused 2\n");
+        DnaTables::Refused(f) => {
+            refused_line(space, at, f);
             true
         }
         DnaTables::TableTooShort(_, _) => false,

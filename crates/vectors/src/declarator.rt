@@ -1,4 +1,5 @@
 // Declarators.
+use crate::file::refused_line;
 use crate::out::SIZE;
 use crate::out::byte;
 use crate::out::line;
@@ -6,7 +7,9 @@ use crate::out::text;
 use crate::out::words;
 use field::field::Declarator;
 use field::field::FieldInfo;
+use field::field::FnPointerField;
 use field::field::ParsedField;
+use field::field::fn_pointer;
 use field::field::parse_field;
 
 // All numbers of a declarator: where the name starts and how long it is, the same of the rest, the indirection, and the length and the number of
@@ -124,4 +127,28 @@ pub fn answer(space: &mut [u8; SIZE], at: &mut usize, name: &[u8]) {
     let found = parse_field(name, &mut table);
     parsed(space, at, Form::Short, &table, found);
     byte(space, at, b'\n');
+}
+
+fn function_line(space: &mut [u8; SIZE], at: &mut usize, d: Declarator) {
+    let name = d.name;
+    let rest = d.rest;
+    line(
+        space,
+        at,
+        b"fn # # # #\n",
+        &[
+            name.at as u64,
+            name.len as u64,
+            rest.at as u64,
+            rest.len as u64,
+        ],
+    );
+}
+
+// A name as a function pointer.
+pub fn function_answer(space: &mut [u8; SIZE], at: &mut usize, name: &[u8]) {
+    match fn_pointer(name) {
+        FnPointerField::Is(d) => function_line(space, at, d),
+        FnPointerField::Refused(f) => refused_line(space, at, f),
+    }
 }

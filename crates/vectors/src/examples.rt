@@ -6,6 +6,7 @@
 use crate::declarator::Form;
 use crate::declarator::declarator;
 use crate::declarator::parsed;
+use crate::file::refused;
 use crate::out::SIZE;
 use crate::out::byte;
 use crate::out::line;
@@ -65,7 +66,7 @@ fn function(space: &mut [u8; SIZE], at: &mut usize, name: &[u8]) {
     text(space, at, b": ");
     match fn_pointer(name) {
         FnPointerField::Is(d) => declarator(space, at, Form::Long, &[0], d),
-        FnPointerField::Refused(_) => text(space, at, b"refused 2"),
+        FnPointerField::Refused(f) => refused(space, at, f),
     }
 }
 

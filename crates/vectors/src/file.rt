@@ -10,6 +10,7 @@ use blend::blend::BlendAnswer;
 use blend::blend::RawBlend;
 use blend::blend::blend;
 use block::Row;
+use bytes::Fault;
 use bytes::PointerSize;
 use header::FileFormat;
 use header::Header;
@@ -158,9 +159,16 @@ fn is_end(s: Step, end: usize) -> bool {
     }
 }
 
-fn is_refusal(s: Step, number: u64) -> bool {
+fn is_same(a: Fault, b: Fault) -> bool {
+    if a.refusal() != b.refusal() {
+        return false;
+    }
+    a.place() == b.place()
+}
+
+fn is_refusal(s: Step, fault: Fault) -> bool {
     match s {
-        Step::Refused(n, _) => n == number,
+        Step::Refused(f, _) => is_same(f, fault),
         _ => false,
     }
 }
@@ -184,10 +192,10 @@ fn ends(place: Place, file: &[u8], end: usize) -> bool {
 }
 
 // Whether the walk is refused here, and again from the place that is handed back.
-fn is_refused(place: Place, file: &[u8], number: u64) -> bool {
+fn is_refused(place: Place, file: &[u8], fault: Fault) -> bool {
     let s = place.step(file);
-    if is_refusal(s, number) {
-        return is_refusal(after(s).step(file), number);
+    if is_refusal(s, fault) {
+        return is_refusal(after(s).step(file), fault);
     }
     false
 }
@@ -213,8 +221,8 @@ fn walk_ends(file: &[u8], table: &[u64], rows: usize, end: usize) -> bool {
     ends(place, file, end)
 }
 
-// Whether a walk comes to this refusal. A block has at least 20 bytes.
-fn walk_is_refused(file: &[u8], number: u64) -> bool {
+// Whether a walk comes to this refusal, at this place. A block has at least 20 bytes.
+fn walk_is_refused(file: &[u8], fault: Fault) -> bool {
     let mut place = Place::start();
     let mut blocks = 0;
     while blocks <= file.len() / 20 {
@@ -224,7 +232,7 @@ fn walk_is_refused(file: &[u8], number: u64) -> bool {
                 blocks += 1;
             }
             _ => {
-                return is_refused(place, file, number);
+                return is_refused(place, file, fault);
             }
         }
     }
@@ -237,8 +245,17 @@ fn walk_line(space: &mut [u8; SIZE], at: &mut usize, as_read: bool) {
     }
 }
 
-pub fn refused_line(space: &mut [u8; SIZE], at: &mut usize, n: u64) {
-    line(space, at, b"refused #\n", &[n]);
+// A refusal's number and, of 16 and 17, the offset that it carries.
+pub fn refused(space: &mut [u8; SIZE], at: &mut usize, f: Fault) {
+    match f {
+        Fault::Refusal(n) => line(space, at, b"refused #", &[n]),
+        _ => line(space, at, b"refused # #", &[f.refusal(), f.place() as u64]),
+    }
+}
+
+pub fn refused_line(space: &mut [u8; SIZE], at: &mut usize, f: Fault) {
+    refused(space, at, f);
+    text(space, at, b"\n");
 }
 
 pub fn too_short_line(space: &mut [u8; SIZE], at: &mut usize, rows: usize) {
@@ -252,9 +269,9 @@ pub fn answer(space: &mut [u8; SIZE], at: &mut usize, file: &[u8]) {
             read_lines(space, at, file, &table, b);
             walk_line(space, at, walk_ends(file, &table, b.rows, b.end));
         }
-        BlendAnswer::Refused(n) => {
-            refused_line(space, at, n);
-            walk_line(space, at, walk_is_refused(file, n));
+        BlendAnswer::Refused(f) => {
+            refused_line(space, at, f);
+            walk_line(space, at, walk_is_refused(file, f));
         }
         BlendAnswer::TableTooShort(rows) => too_short_line(space, at, rows),
     }
@@ -270,6 +287,6 @@ fn header_line(space: &mut [u8; SIZE], at: &mut usize, h: Header, length: usize)
 pub fn header_answer(space: &mut [u8; SIZE], at: &mut usize, bytes: &[u8]) {
     match header(bytes) {
         HeaderAnswer::Is(h, length) => header_line(space, at, h, length),
-        HeaderAnswer::Refused(n) => refused_line(space, at, n),
+        HeaderAnswer::Refused(f) => refused_line(space, at, f),
     }
 }

@@ -6,17 +6,18 @@
 // lines of each answer and then the line `.`. Numbers are decimal; bytes, codes, hashes and floats' bits are hexadecimal.
 //
 // - `F`, a whole file: `file E P O MAJOR MINOR ROWS END N T S F`, and for each row
-//   `row CODE ADDRESS INDEX COUNT AT PAYLOAD-AT LENGTH FNV1A64-OF-PAYLOAD`; or `refused N`. A further line `walk differs` where the walker
-//   does not give the same rows and the same end or refusal.
-// - `H`, a file's header by itself: `header E P O MAJOR MINOR LENGTH`, or `refused N`.
+//   `row CODE ADDRESS INDEX COUNT AT PAYLOAD-AT LENGTH FNV1A64-OF-PAYLOAD`; or `refused N`, of 16 and 17 `refused N OFFSET`. A further line `walk differs` where the walker
+//   does not give the same rows and the same end or refusal, with its offset.
+// - `H`, a file's header by itself: `header E P O MAJOR MINOR LENGTH`, or the refusal as of a file.
 // - `D`, a declarator: `value`, `array`, `pointer`, `pointer-array` or `fn`, then `NAME-AT NAME-LENGTH REST-AT`, then the indirection of a
 //   pointer, then the length, the number of dimensions and the dimensions of an array; or `refused N`.
+// - `f`, a name as a function pointer: `fn NAME-AT NAME-LENGTH REST-AT REST-LENGTH`, or `refused N OFFSET`.
 // - `C`, `c`, a catalogue in little or big order: `dna N T S F END`, then all `name LENGTH BYTES`, all `type SIZE LENGTH BYTES`, all
-//   `struct TYPE FIRST COUNT`, all `field TYPE NAME`; or `refused N`.
+//   `struct TYPE FIRST COUNT`, all `field TYPE NAME`; or `refused N OFFSET`.
 // - `P`, a slice: `KIND ORDER VALUE` for each kind, in little order and then in big; or `KIND ORDER refused 12`.
 // - `N`, whatever the input: `KIND NAME` for each kind of primitive value.
 // - `A`, an address of 8 bytes, little-endian, and a whole file: `null`, `found ROW` or `missing`, then for each row `code CODE` or
-//   `code none`; or `refused N`.
+//   `code none`; or the refusal as of a file.
 //
 // A record that is longer than the buffer is answered `too long`, and a batch that ends inside a record ends with the line `cut`.
 mod address;
@@ -44,6 +45,7 @@ fn answer(space: &mut [u8; SIZE], at: &mut usize, kind: u8, bytes: &[u8]) {
         b'F' => file::answer(space, at, bytes),
         b'H' => file::header_answer(space, at, bytes),
         b'D' => declarator::answer(space, at, bytes),
+        b'f' => declarator::function_answer(space, at, bytes),
         b'C' => catalogue::answer(space, at, bytes, Endianness::Little),
         b'c' => catalogue::answer(space, at, bytes, Endianness::Big),
         b'P' => values::answer(space, at, bytes),

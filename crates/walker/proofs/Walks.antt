@@ -7,11 +7,11 @@ use native.Mathlib.Omega.{arith}
 use borrow.Author.Tests.{lt-ltb, le-ltb}
 use lib.ListN.{length}
 use Rattle.bytes.specs.Paper.{Paper}
-use Rattle.bytes.specs.Paper.Paper.{accepts, refuses}
+use Rattle.bytes.specs.Paper.Paper.{accepts}
 use Rattle.bytes.specs.Reader.{Reader, Outcome, run}
 use Rattle.bytes.specs.Reader.Outcome.{read, fault}
+use Rattle.bytes.specs.Refusals.{paperFault}
 use Rattle.bytes.proofs.Extent.{ends-within}
-use Rattle.bytes.proofs.Refusing.{numberOf, fault-told}
 use Rattle.bytes.proofs.Tests.{held, failed}
 use Rattle.dna.specs.declared.dna.DnaCounts.{DnaCounts}
 use Rattle.header.specs.declared.Header.{Header}
@@ -33,15 +33,15 @@ use Rattle.walker.proofs.Steps.{step-refused, step-over}
 -- how a reading stops
 abbrev pub stopOf : Outcome DnaCounts → Stop
 stopOf (read n end) = ended end
-stopOf (fault x) = refused (numberOf x)
+stopOf (fault x) = refused x
 
 abbrev pub stopBy : Outcome File → Stop
 stopBy (read f at) = stopOf (f .chain .last)
-stopBy (fault x) = refused (numberOf x)
+stopBy (fault x) = refused x
 
 abbrev paperStop : Stop → Paper
 paperStop (ended next) = accepts 1 (next ∷ [])
-paperStop (refused n) = refuses n []
+paperStop (refused x) = paperFault x
 
 mark-told : (l : Last) (next : ℕ) → endMark (lastIsDna l) next ≡ paperStop (stopOf (endedAs l next))
 mark-told Last.Other next = refl
@@ -80,7 +80,7 @@ module _ (header : Reader HeaderBytes) (s : List ℕ) where
             → Walk (Stepped header s) q (chain fuel h s next l .rows) (stopOf (chain fuel h s next l .last)))
             → Walk (Stepped header s) p (link b last at (chain fuel h s) .rows) (stopOf (link b last at (chain fuel h s) .last))
         go Boundary.EndMark t f = stops p (stopOf (endedAs last (at + 4))) (step-at p at last w Boundary.EndMark t ∙ ap (stays p) (mark-told last (at + 4)))
-        go (Boundary.Stopped x) t f = stops p (refused (numberOf x)) (step-at p at last w (Boundary.Stopped x) t ∙ ap (stays p) (fault-told x))
+        go (Boundary.Stopped x) t f = stops p (refused x) (step-at p at last w (Boundary.Stopped x) t)
         go (Boundary.Block r l next) t f =
             let v = block-moves h s at r l next t in
             let q : Place = record { at = next; dna = lastIsDna l } in
@@ -94,7 +94,7 @@ module _ (header : Reader HeaderBytes) (s : List ℕ) where
       let i : first ≤ length s = omega (arith, ends-within header s 0 (b .0) first (b .1)) in
       let e : length s < first + suc (length s) = omega arith in
       walk-chain h first g (suc (length s)) first Last.Other e start (omega arith, failed _ _ (le-ltb first 0 (omega arith)), omega arith) i
-  from-start (fault x) g = stops start (refused (numberOf x)) (step-refused header s start (omega arith) x g ∙ ap (stays start) (fault-told x))
+  from-start (fault x) g = stops start (refused x) (step-refused header s start (omega arith) x g)
 
   pub walks : Walk (Stepped header s) start (rowsOf (fileBy header s)) (stopBy (fileBy header s))
   walks = from-start (valued (run header s 0)) refl

@@ -6,6 +6,7 @@ use mathlib.Core.List.{List, [], _∷_}
 use mathlib.Core.Path.{_≡_}
 use lib.Dec.{ltb}
 use lib.ListN.{length}
+use Rattle.bytes.specs.declared.Fault.{Fault}
 use Rattle.bytes.specs.Paper.{Paper}
 use Rattle.bytes.specs.Paper.Paper.{accepts, refuses}
 use Rattle.bytes.specs.Reader.{Reader, Outcome, run}
@@ -61,13 +62,13 @@ stepBy header s p = elim (ltb (length s) (p .at)) [ true ↦ stays p notThere | 
 abbrev pub paperStep : Step → Paper
 paperStep (Step.Block r p) = accepts 0 (rowNumbers r)
 paperStep (Step.End at p) = accepts 1 (at ∷ [])
-paperStep (Step.Refused n p) = refuses n []
+paperStep (Step.Refused f p) = paperFault f
 
 -- the place that is handed back
 abbrev pub placeOf : Step → Place
 placeOf (Step.Block r p) = p
 placeOf (Step.End at p) = p
-placeOf (Step.Refused n p) = p
+placeOf (Step.Refused f p) = p
 
 -- what a step answers, and the place that it hands back
 abbrev pub Stepped : Reader HeaderBytes → List ℕ → Place → Step → Type 0
@@ -77,14 +78,14 @@ Stepped header s p r = (paperStep r ≡ stepBy header s p .answer) × (placeOf r
 abbrev pub start : Place
 start = record { at = 0; dna = false }
 
--- How a walk stops: at the end mark, with the offset after it, or with the number of a refusal. The step that stops hands its own place back.
+-- How a walk stops: at the end mark, with the offset after it, or with why it is refused, and where. The step that stops hands its own place back.
 pub data Stop : Type 0 where
   ended : ℕ → Stop
-  refused : ℕ → Stop
+  refused : Fault → Stop
 
 abbrev pub stopped : Stop → Place → Step
 stopped (ended next) p = Step.End next p
-stopped (refused n) p = Step.Refused n p
+stopped (refused f) p = Step.Refused f p
 
 -- A walk from a place: these rows, one after another, and then the stop, which is answered again whenever it is asked again.
 abbrev pub Walk : (Place → Step → Type 0) → Place → List Row → Stop → Type 0

@@ -22,8 +22,8 @@ pub enum Step {
     Block(Row, Place),
     // The offset after the end mark.
     End(usize, Place),
-    // The number of the refusal.
-    Refused(u64, Place),
+    // Why it is refused, and where.
+    Refused(Fault, Place),
 }
 
 fn last_is_dna(last: Last) -> bool
@@ -62,7 +62,7 @@ impl Place {
         ensures { λ r. ⌜ calls.«Place::step» self (now (file .entry)) r ⌝ }
     {
         if file.len() < self.at {
-            return Step::Refused(Fault::NOT_THERE, self);
+            return Step::Refused(Fault::Refusal(Fault::NOT_THERE), self);
         }
         let answer = header(file);
         let HeaderAnswer::Is(h, first) = answer else {
@@ -73,7 +73,7 @@ impl Place {
             Boundary::EndMark => if from.dna {
                 Step::End(from.at + 4, self)
             } else {
-                Step::Refused(Fault::NO_DNA_BLOCK_FOUND, self)
+                Step::Refused(Fault::Refusal(Fault::NO_DNA_BLOCK_FOUND), self)
             },
             Boundary::Block(row, last, next) => Step::Block(
                 row,
@@ -82,7 +82,7 @@ impl Place {
                     dna: last_is_dna(last),
                 },
             ),
-            Boundary::Stopped(f) => Step::Refused(f.refusal(), self),
+            Boundary::Stopped(f) => Step::Refused(f, self),
         }
     }
 }

@@ -2,6 +2,7 @@
 use mathlib.Core.Path.{sym, _∙_, ap}
 use Rattle.blend.specs.Chain.{paperBlend}
 use Rattle.exports.specs.Exports.{readOut}
+use Rattle.exports.proofs.Faults.{read-refused}
 use borrow.Author.Needs.{needs}
 use Rattle.exports.proofs.blend_read.Statement.{statement}
 use Rattle.exports.proofs.blend_read.Tie as tie
@@ -15,8 +16,14 @@ enum-known-b c = search needs
 read-out-requires : tie.Need-read-out-requires
 read-out-requires c κs = search needs
 
-enum-known-n : tie.Need-enum-known-n
-enum-known-n c = search needs
+enum-known-f : tie.Need-enum-known-f
+enum-known-f c = search needs
+
+refusal-requires : tie.Need-refusal-requires
+refusal-requires c κs = search needs
+
+place-requires : tie.Need-place-requires
+place-requires c κs = search needs
 
 read-refused-requires : tie.Need-read-refused-requires
 read-refused-requires c κs = search needs
@@ -41,7 +48,7 @@ same-length-2 c = search needs
 returns-2 : tie.Need-returns-2
 returns-2 c =
     let c4 = c .before .before .before .before in
-    (c .read-refused .ensures ∙ ap readOut (ap paperBlend (sym (c .before .before .n .given .1)) ∙ c4 .before .before .blend .ensures .0), c4 .before .before .blend .ensures .1)
+    (c .read-refused .ensures ∙ rw (c .before .place .ensures, c .before .before .refusal .ensures) (read-refused (c4 .f .given .0 .0)) ∙ ap readOut (ap paperBlend (sym (c4 .f .given .1)) ∙ c4 .before .before .before .before .blend .ensures .0), c4 .before .before .before .before .blend .ensures .1)
 
 same-length-3 : tie.Need-same-length-3
 same-length-3 c = search needs
@@ -58,7 +65,9 @@ blend-read-spec =
     blend-requires
     enum-known-b
     read-out-requires
-    enum-known-n
+    enum-known-f
+    refusal-requires
+    place-requires
     read-refused-requires
     enum-known-rows
     read-refused-requires-2

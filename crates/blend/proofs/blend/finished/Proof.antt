@@ -42,21 +42,21 @@ within-requires c κs =
     let c4 = c .before .before .before .before in
     let c8 = c4 .before .before .before .before in
     let a = c8 .before .args in
-    (omega (arith, c8 .before .pre), dna-placed (a .h) (now (a .s)) (a .r) (a .next) _ (whole-kind (c4 .before .before .before .of-code .result) _ (c4 .before .before .before .of-code .ensures)) _ (ap (λ (x : About). x .dna) (c4 .before .before .about .ensures)) (c4 .before .if1 .taken) _ (slice-same (now (a .s)) (a .r .payload) (a .r .len)) _ (c .before .before .before .dna-counts .ensures .1) _ (c .before .f .given .1) _ (slice-long (now (a .s)) (a .r .payload) (a .r .len) (c8 .before .pre)))
+    (omega (arith, c8 .before .pre), dna-placed (a .h) (now (a .s)) (a .r) (a .next) _ (whole-kind (c4 .before .before .before .of-code .result) _ (c4 .before .before .before .of-code .ensures)) _ (ap (λ (x : About). x .dna) (c4 .before .before .about .ensures)) (c4 .before .if1 .taken) _ (slice-same (now (a .s)) (a .r .payload) (a .r .len)) _ (c .before .before .before .dna-counts .ensures) _ (c .before .f .given .1) _ (slice-long (now (a .s)) (a .r .payload) (a .r .len) (c8 .before .pre)))
 
 returns : tie.Need-returns
 returns c =
     let c4 = c .before .before .before .before in
     let c8 = c4 .before .before .before .before in
     let a = c8 .before .args in
-    dna-finished (a .h) (now (a .s)) (a .r) (a .next) _ (whole-kind (c4 .before .before .before .of-code .result) _ (c4 .before .before .before .of-code .ensures)) _ (ap (λ (x : About). x .dna) (c4 .before .before .about .ensures)) (c4 .before .if1 .taken) _ (slice-same (now (a .s)) (a .r .payload) (a .r .len)) _ (c .before .before .before .dna-counts .ensures .1) _ _ (c .before .n .given .1)
+    dna-finished (a .h) (now (a .s)) (a .r) (a .next) _ (whole-kind (c4 .before .before .before .of-code .result) _ (c4 .before .before .before .of-code .ensures)) _ (ap (λ (x : About). x .dna) (c4 .before .before .about .ensures)) (c4 .before .if1 .taken) _ (slice-same (now (a .s)) (a .r .payload) (a .r .len)) _ (c .before .before .before .dna-counts .ensures) _ _ (c .before .n .given .1)
 
 returns-2 : tie.Need-returns-2
 returns-2 c =
     let c4 = c .before .before .before .before in
     let c8 = c4 .before .before .before .before in
     let a = c8 .before .before .args in
-    dna-stopped (a .h) (now (a .s)) (a .r) (a .next) _ (whole-kind (c8 .of-code .result) _ (c8 .of-code .ensures)) _ (ap (λ (x : About). x .dna) (c4 .before .before .before .about .ensures)) (c4 .before .before .if1 .taken) _ (slice-same (now (a .s)) (a .r .payload) (a .r .len)) _ (c4 .dna-counts .ensures .1) _ (c .before .before .f .given .1) _ (c .within .ensures)
+    dna-stopped (a .h) (now (a .s)) (a .r) (a .next) _ (whole-kind (c8 .of-code .result) _ (c8 .of-code .ensures)) _ (ap (λ (x : About). x .dna) (c4 .before .before .before .about .ensures)) (c4 .before .before .if1 .taken) _ (slice-same (now (a .s)) (a .r .payload) (a .r .len)) _ (c4 .dna-counts .ensures) _ (c .before .before .f .given .1) _ (c .within .ensures)
 
 returns-3 : tie.Need-returns-3
 returns-3 c =

@@ -13,9 +13,6 @@ count-blocks-requires c κs = search needs
 enum-known-f : tie.Need-enum-known-f
 enum-known-f c = search needs
 
-refusal-requires : tie.Need-refusal-requires
-refusal-requires c κs = search needs
-
 enum-known-rows : tie.Need-enum-known-rows
 enum-known-rows c = search needs
 
@@ -35,8 +32,8 @@ fill-rows-requires c κs =
 returns-2 : tie.Need-returns-2
 returns-2 c =
     let c4 = c .before .before .before .before in
-    let a = c4 .before .before .before .args in
-    (after-stops (a .h) (chainFrom (a .h) (now (a .file)) (a .from)) _ _ (sym (c .before .before .f .given .1) ∙ c4 .count-blocks .ensures) _ (c .refusal .ensures), refl)
+    let a = c4 .before .before .args in
+    (after-stops (a .h) (chainFrom (a .h) (now (a .file)) (a .from)) _ _ (sym (c .before .f .given .1) ∙ c .before .before .before .count-blocks .ensures), refl)
 
 same-length : tie.Need-same-length
 same-length c = search needs
@@ -54,7 +51,6 @@ read-after-spec =
     (tie.spec
     count-blocks-requires
     enum-known-f
-    refusal-requires
     enum-known-rows
     returns
     fill-rows-requires

@@ -11,8 +11,8 @@ use Rattle.dna.proofs.dna.dna.Tie as tie
 whole-requires : tie.Need-whole-requires
 whole-requires c κs = search needs
 
-enum-told : tie.Need-enum-told
-enum-told c = search needs
+enum-known-f : tie.Need-enum-known-f
+enum-known-f c = search needs
 
 enum-known-l : tie.Need-enum-known-l
 enum-known-l c = search needs
@@ -20,8 +20,8 @@ enum-known-l c = search needs
 room-for-requires : tie.Need-room-for-requires
 room-for-requires c κs = search needs
 
-enum-told-2 : tie.Need-enum-told-2
-enum-told-2 c = search needs
+enum-told : tie.Need-enum-told
+enum-told c = search needs
 
 fill-names-requires : tie.Need-fill-names-requires
 fill-names-requires c κs =
@@ -29,7 +29,7 @@ fill-names-requires c κs =
     let c8 = c4 .before .before .before .before in
     let c12 = c8 .before .before .before .before in
     let a = c12 .before .args in
-    names-room (a .endianness) (now (a .payload)) _ (run (catalogue (a .endianness)) (now (a .payload)) 0) (rw (c4 .before .l .given .1) at (c4 .before .before .before .whole .ensures)) _ _ _ _ (all-fit _ _ _ (ap paperTables (sym (c .before .enum-told2 .given .1)) ∙ c .before .before .before .room-for .ensures))
+    names-room (a .endianness) (now (a .payload)) _ (run (catalogue (a .endianness)) (now (a .payload)) 0) (rw (c4 .before .l .given .1) at (c4 .before .before .before .whole .ensures)) _ _ _ _ (all-fit _ _ _ (ap paperTables (sym (c .before .enum-told .given .1)) ∙ c .before .before .before .room-for .ensures))
 
 fill-types-requires : tie.Need-fill-types-requires
 fill-types-requires c κs =
@@ -38,7 +38,7 @@ fill-types-requires c κs =
     let c12 = c8 .before .before .before .before in
     let c16 = c12 .before .before .before .before in
     let a = c16 .before .args in
-    types-room (a .endianness) (now (a .payload)) _ (run (catalogue (a .endianness)) (now (a .payload)) 0) (rw (c8 .before .l .given .1) at (c8 .before .before .before .whole .ensures)) _ _ _ _ (all-fit _ _ _ (ap paperTables (sym (c4 .before .enum-told2 .given .1)) ∙ c4 .before .before .before .room-for .ensures))
+    types-room (a .endianness) (now (a .payload)) _ (run (catalogue (a .endianness)) (now (a .payload)) 0) (rw (c8 .before .l .given .1) at (c8 .before .before .before .whole .ensures)) _ _ _ _ (all-fit _ _ _ (ap paperTables (sym (c4 .before .enum-told .given .1)) ∙ c4 .before .before .before .room-for .ensures))
 
 fill-structs-requires : tie.Need-fill-structs-requires
 fill-structs-requires c κs =
@@ -48,7 +48,7 @@ fill-structs-requires c κs =
     let c16 = c12 .before .before .before .before in
     let c20 = c16 .before .before .before .before in
     let a = c20 .before .args in
-    structs-room (a .endianness) (now (a .payload)) _ (run (catalogue (a .endianness)) (now (a .payload)) 0) (rw (c12 .before .l .given .1) at (c12 .before .before .before .whole .ensures)) _ _ _ _ (all-fit _ _ _ (ap paperTables (sym (c8 .before .enum-told2 .given .1)) ∙ c8 .before .before .before .room-for .ensures))
+    structs-room (a .endianness) (now (a .payload)) _ (run (catalogue (a .endianness)) (now (a .payload)) 0) (rw (c12 .before .l .given .1) at (c12 .before .before .before .whole .ensures)) _ _ _ _ (all-fit _ _ _ (ap paperTables (sym (c8 .before .enum-told .given .1)) ∙ c8 .before .before .before .room-for .ensures))
 
 fill-fields-requires : tie.Need-fill-fields-requires
 fill-fields-requires c κs =
@@ -59,7 +59,7 @@ fill-fields-requires c κs =
     let c20 = c16 .before .before .before .before in
     let c24 = c20 .before .before .before .before in
     let a = c24 .before .args in
-    fields-room (a .endianness) (now (a .payload)) _ (run (catalogue (a .endianness)) (now (a .payload)) 0) (rw (c16 .before .l .given .1) at (c16 .before .before .before .whole .ensures)) _ _ _ _ (all-fit _ _ _ (ap paperTables (sym (c12 .before .enum-told2 .given .1)) ∙ c12 .before .before .before .room-for .ensures))
+    fields-room (a .endianness) (now (a .payload)) _ (run (catalogue (a .endianness)) (now (a .payload)) 0) (rw (c16 .before .l .given .1) at (c16 .before .before .before .whole .ensures)) _ _ _ _ (all-fit _ _ _ (ap paperTables (sym (c12 .before .enum-told .given .1)) ∙ c12 .before .before .before .room-for .ensures))
 
 enum-known-refusal : tie.Need-enum-known-refusal
 enum-known-refusal c = search needs
@@ -69,8 +69,8 @@ enum-known-which c = search needs
 
 returns : tie.Need-returns
 returns c =
-    let a = c .before .before .before .before .before .before .before .before .args in
-    stopped-so (run (catalogue (a .endianness)) (now (a .payload)) 0) _ (now (a .names)) (now (a .types)) (now (a .structs)) (now (a .fields)) (rw (c .enum-told .given .1) at (c .before .before .whole .ensures))
+    let a = c .before .before .before .before .before .before .before .before .before .args in
+    stopped-so (run (catalogue (a .endianness)) (now (a .payload)) 0) _ (now (a .names)) (now (a .types)) (now (a .structs)) (now (a .fields)) (rw (c .before .f .given .1) at (c .before .before .before .whole .ensures))
 
 same-length : tie.Need-same-length
 same-length c = c .before .before .before .before .before .before .before .before .before .before .before .before .before .before .fill-names .kept .1 .1 .1 .0
@@ -94,7 +94,7 @@ returns-2 c =
     let c24 = c20 .before .before .before .before in
     let c28 = c24 .before .before .before .before in
     let a = c28 .args in
-    filled-so (a .endianness) (now (a .payload)) _ (run (catalogue (a .endianness)) (now (a .payload)) 0) (rw (c20 .l .given .1) at (c20 .before .before .whole .ensures)) (now (a .names)) (now (a .types)) (now (a .structs)) (now (a .fields)) _ _ _ _ (all-fit _ _ _ (ap paperTables (sym (c16 .enum-told2 .given .1)) ∙ c16 .before .before .room-for .ensures)) (c12 .before .before .fill-names .ensures) (c8 .before .before .fill-types .ensures) (c4 .before .before .fill-structs .ensures) (c .before .before .fill-fields .ensures)
+    filled-so (a .endianness) (now (a .payload)) _ (run (catalogue (a .endianness)) (now (a .payload)) 0) (rw (c20 .l .given .1) at (c20 .before .before .whole .ensures)) (now (a .names)) (now (a .types)) (now (a .structs)) (now (a .fields)) _ _ _ _ (all-fit _ _ _ (ap paperTables (sym (c16 .enum-told .given .1)) ∙ c16 .before .before .room-for .ensures)) (c12 .before .before .fill-names .ensures) (c8 .before .before .fill-types .ensures) (c4 .before .before .fill-structs .ensures) (c .before .before .fill-fields .ensures)
 
 returns-3 : tie.Need-returns-3
 returns-3 c =
@@ -117,10 +117,10 @@ dna-spec =
     tie.close
     (tie.spec
     whole-requires
-    enum-told
+    enum-known-f
     enum-known-l
     room-for-requires
-    enum-told-2
+    enum-told
     fill-names-requires
     fill-types-requires
     fill-structs-requires

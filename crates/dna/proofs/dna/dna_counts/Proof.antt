@@ -1,11 +1,7 @@
 -- `dna_counts`: the numbers of the layout that `whole` found.
 use mathlib.Core.Path.{sym, ap}
-use denote.Ref.{now}
-use Rattle.bytes.specs.Reader.{run}
-use Rattle.dna.specs.declared.dna.DnaCounted.{DnaCounted}
-use Rattle.dna.specs.Catalogue.{catalogue, countsOnly}
+use Rattle.dna.specs.Catalogue.{countsOnly}
 use Rattle.dna.proofs.Answers.{counted-so}
-use Rattle.dna.proofs.Lossless.{counted-both}
 use borrow.Author.Needs.{needs}
 use Rattle.dna.proofs.dna.dna_counts.Statement.{statement}
 use Rattle.dna.proofs.dna.dna_counts.Tie as tie
@@ -21,13 +17,11 @@ enum-known-l c = search needs
 
 returns : tie.Need-returns
 returns c =
-    let a = c .before .before .before .before .before .args in
-    counted-both (run (catalogue (a .endianness)) (now (a .payload)) 0) (DnaCounted.Stopped _) (sym (ap countsOnly (rw (c .before .f .given .1) at (c .before .before .before .whole .ensures))))
+    sym (ap countsOnly (rw (c .before .f .given .1) at (c .before .before .before .whole .ensures)))
 
 returns-2 : tie.Need-returns-2
 returns-2 c =
-    let a = c .before .before .before .before .before .args in
-    counted-both (run (catalogue (a .endianness)) (now (a .payload)) 0) (DnaCounted.Are _ _) (counted-so _ _ _ _ (rw (c .before .l .given .1) at (c .before .before .before .whole .ensures)))
+    counted-so _ _ _ _ (rw (c .before .l .given .1) at (c .before .before .before .whole .ensures))
 
 pub dna-counts-spec : {M : Type 1} → statement M
 dna-counts-spec = tie.close (tie.spec whole-requires enum-known-f enum-known-l returns returns-2)

@@ -1,4 +1,4 @@
--- `header`: the header or the number of its fault, on paper.
+-- `header`: the header or its fault, on paper.
 use mathlib.Core.Path.{sym, _∙_, ap}
 use Rattle.header.specs.Header.{headerAs}
 use Rattle.header.specs.Helpers.{headerRead}
@@ -15,16 +15,13 @@ enum-known-h c = search needs
 enum-known-f : tie.Need-enum-known-f
 enum-known-f c = search needs
 
-refusal-requires : tie.Need-refusal-requires
-refusal-requires c κs = search needs
-
 returns : tie.Need-returns
 returns c = ap headerAs (ap headerRead (sym (c .before .h .given .1)) ∙ c .before .before .before .header-in .ensures)
 
 returns-2 : tie.Need-returns-2
-returns-2 c = c .refusal .ensures ∙ ap headerAs (ap headerRead (sym (c .before .before .f .given .1)) ∙ c .before .before .before .before .header-in .ensures)
+returns-2 c = ap headerAs (ap headerRead (sym (c .before .f .given .1)) ∙ c .before .before .before .header-in .ensures)
 
 pub header-spec : {M : Type 1} → statement M
 header-spec =
     tie.close
-    (tie.spec header-in-requires enum-known-h enum-known-f refusal-requires returns returns-2)
+    (tie.spec header-in-requires enum-known-h enum-known-f returns returns-2)

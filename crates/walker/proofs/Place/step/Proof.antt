@@ -34,7 +34,7 @@ returns-2 : tie.Need-returns-2
 returns-2 c =
     let c4 = c .before .before .before .before in
     let a = c4 .before .before .before .args in
-    let w = refused-told (now (a .file)) _ (c .before .before .before .header .ensures) _ _ (c .before .enum-told .given .1) (c .refusal-of .ensures) in step-told (stepBy headerBytes (now (a .file)) (a .self)) _ (step-refused headerBytes (now (a .file)) (a .self) (c4 .if1 .left) (w .0) (w .1)) _ (w .2) _ refl
+    step-told (stepBy headerBytes (now (a .file)) (a .self)) _ (step-refused headerBytes (now (a .file)) (a .self) (c4 .if1 .left) _ (refused-told (now (a .file)) _ (c .before .before .before .header .ensures) _ _ (c .before .enum-told .given .1) (c .refusal-of .ensures))) _ refl _ refl
 
 stands-for-requires : tie.Need-stands-for-requires
 stands-for-requires c κs = search needs
@@ -45,8 +45,8 @@ boundary-at-requires c κs = search needs
 enum-told-2 : tie.Need-enum-told-2
 enum-told-2 c = search needs
 
-add-t18 : tie.Need-add-t18
-add-t18 c =
+add-t19 : tie.Need-add-t19
+add-t19 c =
     let c4 = c .before .before .before .before in
     let c8 = c4 .before .before .before .before in
     let c12 = c8 .before .before .before .before in
@@ -60,9 +60,6 @@ last-is-dna-requires c κs = search needs
 
 enum-known-f : tie.Need-enum-known-f
 enum-known-f c = search needs
-
-refusal-requires : tie.Need-refusal-requires
-refusal-requires c κs = search needs
 
 returns-3 : tie.Need-returns-3
 returns-3 c =
@@ -93,8 +90,8 @@ returns-6 c =
     let c4 = c .before .before .before .before in
     let c8 = c4 .before .before .before .before in
     let c12 = c8 .before .before .before .before in
-    let a = c12 .before .args in
-    step-told (stepBy headerBytes (now (a .file)) (a .self)) _ (step-over headerBytes (now (a .file)) (a .self) (c8 .before .before .if1 .left) (c4 .before .before .before .answer .given .0 .0) _ (header-found (now (a .file)) (c4 .before .before .before .answer .given .0 .0) _ (ap paperHeader (sym (c4 .before .before .before .answer .given .1)) ∙ c8 .before .header .ensures)) _ (c4 .before .stands-for .ensures) _ (sym (c4 .boundary-at .ensures) ∙ c .before .before .f .given .1)) _ (c .refusal .ensures) _ refl
+    let a = c12 .args in
+    step-told (stepBy headerBytes (now (a .file)) (a .self)) _ (step-over headerBytes (now (a .file)) (a .self) (c8 .before .if1 .left) (c4 .before .before .answer .given .0 .0) _ (header-found (now (a .file)) (c4 .before .before .answer .given .0 .0) _ (ap paperHeader (sym (c4 .before .before .answer .given .1)) ∙ c8 .header .ensures)) _ (c4 .stands-for .ensures) _ (sym (c .before .before .before .boundary-at .ensures) ∙ c .before .f .given .1)) _ refl _ refl
 
 pub step-spec : {M : Type 1} → statement M
 step-spec =
@@ -109,11 +106,10 @@ step-spec =
     stands-for-requires
     boundary-at-requires
     enum-told-2
-    add-t18
+    add-t19
     enum-known-row
     last-is-dna-requires
     enum-known-f
-    refusal-requires
     returns-3
     returns-4
     returns-5
