@@ -1,5 +1,6 @@
 -- How an answer is told on paper: what is accepted with its numbers, or the number of the refusal with what it carries. Each enum that a
--- caller of the reader gets has such a paper, and its contract compares papers, or, of the lowest reads, what a tree finds. proofs/Lossless.antt: equal papers, equal answers.
+-- caller of the reader gets has such a paper, and its contract compares papers, or, of the lowest reads, what a tree finds. proofs/Lossless.antt: equal papers,
+-- equal answers.
 use Prim.Native.Nat.{ℕ}
 use mathlib.Core.List.{List}
 use lib.IntN.{ℤ}

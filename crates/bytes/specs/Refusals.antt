@@ -8,8 +8,8 @@ use Rattle.bytes.specs.Paper.Paper.{accepts, refuses}
 use Rattle.bytes.specs.Reader.{Outcome}
 use Rattle.bytes.specs.Reader.Outcome.{read, fault}
 
--- Those that a reading tree or a chain gives are numbers here: a tree says `refuse unknownBlockCode`, and `paperFault` tells it. Of document 01's 2, malformed, there are two
--- since request 3 of document 02: 16, cut short, and 17, wrong mark.
+-- Those that a reading tree or a chain gives are numbers here: a tree says `refuse unknownBlockCode`, and `paperFault` tells it. In the place of document 01's 2,
+-- malformed, stand 16, cut short, and 17, wrong mark (request 3 of document 02).
 abbrev pub compressedFileNotSupported : ℕ
 compressedFileNotSupported = 1
 

@@ -1,4 +1,5 @@
--- Examples at the edges: those that document 01 marks with P, as one list, and those of request 3 of document 02, with one claim, of what the calls answer; and the scenes that the demands are tried on.
+-- Examples at the edges: those that document 01 marks with P, as one list, and those of request 3 of document 02, with one claim, of what the calls answer; and the
+-- scenes that the demands are tried on.
 use Prim.Native.Nat.{ℕ, _+_, _-_}
 use mathlib.Core.List.{List, [], _∷_, _++_}
 use mathlib.Core.Path.{_≡_}

@@ -121,8 +121,8 @@ pub record CutUpload : Type 0 where
       → (m t u f m′ t′ u′ f′ : List ℕ) (r : DnaTables) → dna.«dna::dna» (take k s) e m t u f r m′ t′ u′ f′ → CutAt k (paperTables r)
 
 -- For other languages a step of the walker is a call over numbers, so that a caller can go up to the fault and say in which block it is. From the start the steps give the
--- rows that `blend_read` leaves in the table, one after another, and then its end, or its refusal with its place; where the table is too short for it, the steps give the rows that 7 says
--- are needed.
+-- rows that `blend_read` leaves in the table, one after another, and then its end, or its refusal with its place; where the table is too short for it, the rows that 7
+-- says are needed.
 abbrev pub rowOf : BlendStep → Row
 rowOf q = record { code = q .code; address = q .address; index = q .index; count = q .count; at = q .at; payload = q .payload; len = q .length }
 

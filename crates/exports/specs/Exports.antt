@@ -1,5 +1,5 @@
 -- What the functions for other languages answer: the paper of the reader's answer as a struct of numbers. `refusal` is 0 or the refusal's number, and on a
--- refusal every number that it does not carry is 0. Papers of one whole number or float (`integer`, `real`) are none of these calls'.
+-- refusal every number that it does not carry is 0, but a step's next place. Papers of one whole number or float (`integer`, `real`) are none of these calls'.
 use Prim.Native.Nat.{ℕ}
 use mathlib.Core.Bool.{Bool, true, false, _||_}
 use mathlib.Core.List.{List, []}
