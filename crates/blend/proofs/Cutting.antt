@@ -4,51 +4,37 @@ use mathlib.Core.Bool.{Bool, true, false}
 use mathlib.Core.List.{List}
 use mathlib.Core.Path.{_≡_, refl, sym, _∙_, ap}
 use native.Mathlib.Omega.{arith}
-use lib.Dec.{eqb, leb}
+use lib.Dec.{leb}
 use lib.ListN.{length, take}
 use lib.Seq.{length-take-le}
 use borrow.Author.Tests.{leb-true, leb-false}
-use Rattle.bytes.specs.declared.Fault.{Fault}
 use Rattle.bytes.specs.declared.Fault.the-variants.{Cut}
 use Rattle.bytes.specs.Ascii.{ascii}
-use Rattle.bytes.specs.Reader.{Reader, Outcome, run, then, same, stands}
-use Rattle.bytes.specs.Reader.Reader.{done, refuse, skip}
+use Rattle.bytes.specs.Reader.{Outcome, run, then, same, stands}
+use Rattle.bytes.specs.Reader.Reader.{done, skip}
 use Rattle.bytes.specs.Reader.Outcome.{read, fault}
 use Rattle.bytes.proofs.Cutting.{CutWithin, Wanting, wanting-then, cut-read}
 use Rattle.bytes.proofs.Marks.{stands-cut}
 use Rattle.bytes.proofs.Parts.{inner}
 use Rattle.header.specs.declared.Header.{Header}
 use Rattle.block.specs.declared.BlockHeader.{BlockHeader}
-use Rattle.block.specs.declared.Kind.{Kind}
 use Rattle.block.specs.declared.Row.{Row}
 use Rattle.block.specs.BlockHeaders.{blockHeader}
 use Rattle.block.specs.Kinds.{kindOf}
-use Rattle.block.proofs.Cutting.{block-header-wants}
+use Rattle.block.proofs.Trees.{block-header-wants}
 use Rattle.blend.specs.declared.blend.Boundary.{Boundary}
 use Rattle.blend.specs.declared.blend.Last.{Last}
 use Rattle.blend.specs.Blocks.{taken, block, rowed, rowAt, boundaryOf}
 use Rattle.blend.proofs.Chains.{block-row}
 use Rattle.blend.proofs.Links.{no-mark}
 use Rattle.blend.proofs.Rows.{boundary-stops}
-
-taken-wants : (k : Kind) (n : ℕ) → Wanting (taken k n)
-taken-wants Kind.Rend n = tt
-taken-wants Kind.Test n = tt
-taken-wants Kind.Global n = tt
-taken-wants Kind.Subsidiary n = tt
-taken-wants Kind.Dna n = tt
-taken-wants Kind.Unknown n = tt
-taken-wants Kind.Principal n = go (eqb n 1)
-  where
-    go : (c : Bool) → Wanting {A = Unit {0}} (elim c as (λ (d : Bool). Reader (Unit {0})) [ true ↦ done tt | false ↦ refuse 4 ])
-    go true = tt
-    go false = tt
+use Rattle.blend.proofs.Taken.{of-taken}
 
 block-wants : (h : Header) → Wanting (block h)
 unfolding block blockHeader
 block-wants h =
     wanting-then (blockHeader h) (λ b. skip (b .size) (then (taken (kindOf (b .code)) (b .count)) (λ u. done b))) (block-header-wants h)
-    (λ b. wanting-then (taken (kindOf (b .code)) (b .count)) (λ u. done b) (taken-wants (kindOf (b .code)) (b .count)) (λ u. tt))
+    (λ b. wanting-then (taken (kindOf (b .code)) (b .count)) (λ u. done b) (of-taken Wanting tt tt tt (kindOf (b .code)) (b .count)) (λ u. tt))
 
 module _ (h : Header) (s : List ℕ) (k : ℕ) (l : k ≤ length s) (at : ℕ) (r : Row) (last : Last) (next : ℕ) (e : boundaryOf h s at ≡ Boundary.Block r last next) (i : at ≤ k) (o : k < next) where
   row-cut : CutWithin k (rowAt h (take k s) at)

@@ -6,5 +6,6 @@ pub mod Links
 pub mod Lossless
 pub mod Answers
 pub mod Examples
+pub mod Taken
 pub mod Refusing
 pub mod Cutting

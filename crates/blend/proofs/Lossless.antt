@@ -1,6 +1,6 @@
 -- The papers and the outcomes of the answers lose nothing: two answers that are told alike are the same answer.
 use Prim.Native.Nat.{ℕ}
-use mathlib.Core.List.{List}
+use mathlib.Core.List.{List, []}
 use mathlib.Core.Path.{_≡_, refl, sym, _∙_, ap}
 use lib.ListN.{getD}
 use Rattle.dna.specs.declared.dna.DnaCounts.{DnaCounts}
@@ -10,9 +10,8 @@ use Rattle.blend.specs.declared.blend.BlendAnswer.{BlendAnswer}
 use Rattle.header.proofs.Lossless.{header-one}
 use native.Mathlib.Omega.{arith}
 use Rattle.bytes.specs.declared.Fault.{Fault}
-use Rattle.bytes.specs.declared.Fault.the-variants.{Cut, Mark, Refusal}
 use Rattle.bytes.specs.Refusals.{blockTableTooShort, paperFault}
-use Rattle.bytes.proofs.Lossless.{whole-fault}
+use Rattle.bytes.proofs.Lossless.{whole-fault, no-fault}
 use Rattle.dna.specs.Catalogue.{countNumbers}
 use Rattle.block.proofs.Lossless.{whole-row}
 use Rattle.block.specs.declared.Row.{Row}
@@ -34,9 +33,7 @@ blend-one a b h r e d =
 
 -- a fault is no refusal 7
 pub no-short : (rows : ℕ) (x : Fault) → blockTableTooShort rows ≡ paperFault x → ⊥
-no-short rows (Cut at) h = let z : _≡_ {A = ℕ} 7 16 = cc in omega arith
-no-short rows (Mark at) h = let z : _≡_ {A = ℕ} 7 17 = cc in omega arith
-no-short rows (Refusal n) h = let z : _≡_ {A = ℕ} 0 1 = cc in omega arith
+no-short rows x h = no-fault 7 rows [] (omega arith) x h
 
 pub whole-blend : (a b : BlendAnswer) → paperBlend a ≡ paperBlend b → a ≡ b
 whole-blend (BlendAnswer.Is x) (BlendAnswer.Is y) e =

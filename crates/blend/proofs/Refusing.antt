@@ -2,25 +2,23 @@
 -- marks alone, and 2 is given by none.
 use Prim.Native.Nat.{ℕ, zero, suc, _+_}
 use mathlib.Core.Bool.{Bool, true, false}
-use mathlib.Core.List.{List, []}
+use mathlib.Core.List.{List}
 use mathlib.Core.Path.{_≡_, refl, _∙_, ap}
 use native.Mathlib.Omega.{arith}
-use lib.Dec.{eqb}
 use lib.ListN.{length}
 use Rattle.bytes.specs.declared.Fault.{Fault}
 use Rattle.bytes.specs.declared.Fault.the-variants.{Cut, Mark, Refusal}
 use Rattle.bytes.specs.Ascii.{ascii}
-use Rattle.bytes.specs.Reader.{Reader, Outcome, run, then, stands}
-use Rattle.bytes.specs.Reader.Reader.{done, refuse, skip}
+use Rattle.bytes.specs.Reader.{Outcome, run, then, stands}
+use Rattle.bytes.specs.Reader.Reader.{done, skip}
 use Rattle.bytes.specs.Reader.Outcome.{read, fault}
 use Rattle.bytes.proofs.Refusing.{Gives, given, gives-then}
 use Rattle.dna.specs.Catalogue.{Dna, catalogue}
 use Rattle.dna.proofs.Refusing.{catalogue-gives}
-use Rattle.block.proofs.Refusing.{block-header-gives}
+use Rattle.block.proofs.Trees.{block-header-gives}
 use Rattle.header.proofs.Refusing.{Counts, Told, stop-told, header-gives}
 use Rattle.header.specs.declared.Header.{Header}
 use Rattle.block.specs.declared.BlockHeader.{BlockHeader}
-use Rattle.block.specs.declared.Kind.{Kind}
 use Rattle.block.specs.declared.Row.{Row}
 use Rattle.blend.specs.declared.blend.Last.{Last}
 use Rattle.blend.specs.declared.blend.Boundary.{Boundary}
@@ -30,25 +28,13 @@ use Rattle.blend.specs.Blocks.{taken, block, rowed, rowAt, catalogued, i
 use Rattle.block.specs.Rows.{payloadOf}
 use Rattle.blend.specs.Chain.{ended, link, chain, chainFrom, onHeader, fileBy}
 use Rattle.header.specs.Header.{HeaderBytes, headerBytes, valued}
-
-taken-gives : (k : Kind) (n : ℕ) → Gives Counts (taken k n)
-taken-gives Kind.Rend n = tt
-taken-gives Kind.Test n = tt
-taken-gives Kind.Global n = tt
-taken-gives Kind.Subsidiary n = tt
-taken-gives Kind.Dna n = tt
-taken-gives Kind.Unknown n = (omega arith, omega arith, λ e. omega arith)
-taken-gives Kind.Principal n = go (eqb n 1)
-  where
-    go : (c : Bool) → Gives Counts {A = Unit {0}} (elim c as (λ (d : Bool). Reader (Unit {0})) [ true ↦ done tt | false ↦ refuse 4 ])
-    go true = tt
-    go false = (omega arith, omega arith, λ e. omega arith)
+use Rattle.blend.proofs.Taken.{of-taken}
 
 block-gives : (h : Header) → Gives Counts (block h)
 unfolding block blockHeader
 block-gives h =
     gives-then Counts (blockHeader h) (λ b. skip (b .size) (then (taken (kindOf (b .code)) (b .count)) (λ u. done b))) (block-header-gives h)
-    (λ b. gives-then Counts (taken (kindOf (b .code)) (b .count)) (λ u. done b) (taken-gives (kindOf (b .code)) (b .count)) (λ u. tt))
+    (λ b. gives-then Counts (taken (kindOf (b .code)) (b .count)) (λ u. done b) (of-taken (Gives Counts) tt (omega arith, omega arith, λ e. omega arith) (omega arith, omega arith, λ e. omega arith) (kindOf (b .code)) (b .count)) (λ u. tt))
 
 -- what stops at a boundary, a chain and a file
 module _ (h : Header) (s : List ℕ) where

@@ -5,6 +5,5 @@ pub mod There
 pub mod Tables
 pub mod Spelling
 pub mod Lossless
-pub mod Refusing
-pub mod Cutting
+pub mod Trees
 pub mod Examples

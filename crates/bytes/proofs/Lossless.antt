@@ -1,5 +1,5 @@
 -- Papers and outcomes lose nothing: two faults, two finds of a tree and two answers of the cursor that are told alike are the same.
-use Prim.Native.Nat.{ℕ}
+use Prim.Native.Nat.{ℕ, _<_}
 use mathlib.Core.Bool.{Bool, true, false}
 use mathlib.Core.List.{List, [], _∷_, _++_}
 use mathlib.Core.Path.{_≡_, refl, _∙_, ap}
@@ -12,6 +12,7 @@ use Rattle.bytes.specs.declared.cursor.Moved.{Moved}
 use Rattle.bytes.specs.declared.cursor.Counted.{Counted}
 use Rattle.bytes.specs.declared.cursor.Begun.{Begun}
 use Rattle.bytes.specs.Cursor.{numbered, moved, counted, begun, paperNumbered, paperMoved, paperCounted, thereAs, paperBegun}
+use Rattle.bytes.specs.Paper.Paper.{refuses}
 use Rattle.bytes.specs.Reader.{Outcome}
 use Rattle.bytes.specs.Reader.Outcome.{read, fault}
 use Rattle.bytes.specs.Refusals.{paperFault, told}
@@ -59,6 +60,12 @@ whole-fault (Mark m) (Refusal n) e = cc
 whole-fault (Refusal m) (Cut n) e = cc
 whole-fault (Refusal m) (Mark n) e = cc
 whole-fault (Refusal m) (Refusal n) e = cc
+
+-- a refusal below 16 that carries something is no fault
+pub no-fault : (number m : ℕ) (ns : List ℕ) → number < 16 → (x : Fault) → refuses number (m ∷ ns) ≡ paperFault x → ⊥
+no-fault number m ns l (Cut at) e = let z : number ≡ 16 = cc in omega arith
+no-fault number m ns l (Mark at) e = let z : number ≡ 17 = cc in omega arith
+no-fault number m ns l (Refusal n) e = let z : _≡_ {A = ℕ} 0 1 = cc in omega arith
 
 -- a list and its last number, told as one list
 last-one : (xs ys : List ℕ) (x y : ℕ) → (xs ++ (x ∷ [])) ≡ (ys ++ (y ∷ [])) → (xs ≡ ys) × (x ≡ y)

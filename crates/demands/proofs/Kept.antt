@@ -8,8 +8,8 @@ use borrow.Author.Tests.{lt-leb, le-ltb}
 use lib.Dec.{leb, ltb, eqb}
 use lib.ListN.{length, getD}
 use Rattle.bytes.specs.Ascii.{ascii}
-use Rattle.bytes.specs.Reader.{Reader, Outcome, run, then, same, stands}
-use Rattle.bytes.specs.Reader.Reader.{done, refuse, skip}
+use Rattle.bytes.specs.Reader.{Outcome, run, then, same, stands}
+use Rattle.bytes.specs.Reader.Reader.{done, skip}
 use Rattle.bytes.specs.Reader.Outcome.{read}
 use Rattle.bytes.proofs.Reading.{skipped}
 use Rattle.dna.specs.declared.dna.DnaCounts.{DnaCounts}
@@ -20,12 +20,11 @@ use Rattle.block.specs.declared.Row.{Row}
 use Rattle.block.specs.declared.Kind.{Kind}
 use Rattle.blend.specs.declared.blend.Last.{Last}
 use Rattle.blend.specs.declared.blend.Boundary.{Boundary}
-use Rattle.header.specs.Layout.{Field, Item, layout, blockHeaderLength}
-use Rattle.block.specs.BlockHeaders.{tested, fields, blockHeader}
+use Rattle.header.specs.Layout.{blockHeaderLength}
+use Rattle.block.specs.BlockHeaders.{blockHeader}
 use Rattle.block.specs.Kinds.{codeNumber, isPrincipal, kindOf}
 use Rattle.blend.specs.Blocks.{taken, block, rowed, rowAt, catalogued, isDna, finished, boundaryOf}
 use Rattle.block.specs.Rows.{payloadOf}
-use Rattle.header.specs.Layout.Field.{size, address, index, count}
 use Rattle.blend.proofs.Chains.{block-row, block-lies, mark-stands, mark-room}
 use Rattle.header.proofs.Lengths.{header-at-least}
 use Rattle.blend.proofs.Rows.{Lies, row-headed, by-code, on-payload, payload-at, boundary-block, end-mark}
@@ -33,45 +32,14 @@ use Rattle.bytes.proofs.Parts.{skip-room}
 use Rattle.demands.specs.Unaltered.{isOther, isFree}
 use Rattle.bytes.specs.Looks.{Untouched}
 use Rattle.blend.proofs.Links.{Linked, no-mark, mark-ends, linked-ends}
-use Rattle.bytes.proofs.Own.{Sober, own, window}
-
--- a block header's tree looks at its own bytes alone
-tested-sober : {A : Type 0} (f : Field) (n : ℕ) (r : Reader A) → Sober r → Sober (tested f n r)
-tested-sober size n r w = w
-tested-sober index n r w = w
-tested-sober count n r w = w
-tested-sober {A} address n r w = go (eqb n 0)
-  where
-    go : (c : Bool) → Sober {A = A} (elim c as (λ (d : Bool). Reader A) [ true ↦ refuse 3 | false ↦ r ])
-    go true = tt
-    go false = w
-
-fields-sober : (is : List Item) (b : BlockHeader) → Sober (fields is b)
-unfolding fields
-fields-sober [] b = tt
-fields-sober (i ∷ is) b = λ bs. tested-sober (i .field) _ _ (fields-sober is _)
-
-header-sober : (h : Header) → Sober (blockHeader h)
-unfolding blockHeader
-header-sober h = λ bs. fields-sober (layout h) _
+use Rattle.bytes.proofs.Own.{own, window}
+use Rattle.block.proofs.Trees.{block-header-sober}
+use Rattle.blend.proofs.Taken.{of-taken}
 
 -- a code is taken or not whatever the bytes are
 taken-same : (q : Kind) (n : ℕ) (b : BlockHeader) (s z : List ℕ) (at : ℕ) → run (then (taken q n) (λ u. done b)) s at ≡ run (then (taken q n) (λ u. done b)) z at
 unfolding run then
-taken-same Kind.Rend n b s z at = refl
-taken-same Kind.Test n b s z at = refl
-taken-same Kind.Global n b s z at = refl
-taken-same Kind.Subsidiary n b s z at = refl
-taken-same Kind.Dna n b s z at = refl
-taken-same Kind.Unknown n b s z at = refl
-taken-same Kind.Principal n b s z at = go (eqb n 1)
-  where
-    tree : Bool → Reader BlockHeader
-    tree c = then {A = Unit {0}} (elim c as (λ (d : Bool). Reader (Unit {0})) [ true ↦ done tt | false ↦ refuse 4 ]) (λ u. done b)
-
-    go : (c : Bool) → run (tree c) s at ≡ run (tree c) z at
-    go true = refl
-    go false = refl
+taken-same q n b s z at = of-taken (λ r. run (then r (λ u. done b)) s at ≡ run (then r (λ u. done b)) z at) refl refl refl q n
 
 -- a number whose kind is DNA1's is its code
 dna-code : (n : ℕ) → isDna (kindOf n) ≡ true → eqb n (codeNumber "DNA1") ≡ true
@@ -144,7 +112,7 @@ module _ (h : Header) (s z : List ℕ) where
       let m = skip-room (b .size) s (w .from) next (w .payload) in
       let f = payload-at h s at b (w .from) (w .header) in
       let g : run (blockHeader h) z at ≡ read b (w .from) =
-      own (blockHeader h) (header-sober h) s z at b (w .from) (sym (w .header)) (omega (arith, m .1)) (omega (arith, m .0)) (λ i p q. u i p (omega (arith, f))) in
+      own (blockHeader h) (block-header-sober h) s z at b (w .from) (sym (w .header)) (omega (arith, m .1)) (omega (arith, m .0)) (λ i p q. u i p (omega (arith, f))) in
       let v : _≡_ {A = Outcome (Unit {0})} (read tt next) (run (skip (b .size) (done tt)) z (w .from)) =
       ap (λ (i : ℕ). read tt i) (m .0) ∙ skipped (b .size) z (w .from) (omega (arith, m .0)) in
       let a : run (block h) z at ≡ run (block h) s at =

@@ -1,6 +1,6 @@
 -- The papers of the answers lose nothing: two answers that are told alike are the same answer.
 use Prim.Native.Nat.{ℕ}
-use mathlib.Core.List.{List}
+use mathlib.Core.List.{List, [], _∷_}
 use mathlib.Core.Path.{_≡_, sym, _∙_, ap}
 use Rattle.dna.specs.declared.dna.DnaCounted.{DnaCounted}
 use Rattle.dna.specs.declared.dna.DnaCounts as catalogues
@@ -8,9 +8,8 @@ use Rattle.dna.specs.declared.dna.DnaTables.{DnaTables}
 use Rattle.bytes.specs.Reader.{Outcome}
 use native.Mathlib.Omega.{arith}
 use Rattle.bytes.specs.declared.Fault.{Fault}
-use Rattle.bytes.specs.declared.Fault.the-variants.{Cut, Mark, Refusal}
 use Rattle.bytes.specs.Refusals.{catalogueTableTooShort, paperFault}
-use Rattle.bytes.proofs.Lossless.{whole-fault, whole-told}
+use Rattle.bytes.proofs.Lossless.{whole-fault, no-fault, whole-told}
 use Rattle.dna.specs.Catalogue.{Dna, Filled, countNumbers, paperTables, paperCounted, outcomeOf}
 
 counts-one : (a b : catalogues.DnaCounts) → a .names ≡ b .names → a .types ≡ b .types → a .structs ≡ b .structs → a .fields ≡ b .fields → a ≡ b
@@ -22,9 +21,7 @@ counts-one a b n t s f =
 
 -- a fault is no refusal 8
 no-short : (which rows : ℕ) (x : Fault) → catalogueTableTooShort which rows ≡ paperFault x → ⊥
-no-short which rows (Cut at) h = let z : _≡_ {A = ℕ} 8 16 = cc in omega arith
-no-short which rows (Mark at) h = let z : _≡_ {A = ℕ} 8 17 = cc in omega arith
-no-short which rows (Refusal n) h = let z : _≡_ {A = ℕ} 0 1 = cc in omega arith
+no-short which rows x h = no-fault 8 which (rows ∷ []) (omega arith) x h
 
 pub whole-tables : (a b : DnaTables) → paperTables a ≡ paperTables b → a ≡ b
 whole-tables (DnaTables.Are x) (DnaTables.Are y) h =
