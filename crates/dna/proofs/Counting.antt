@@ -1,5 +1,5 @@
 -- The pass that counts: one turn of each of its loops, and how the sections of the tree go together.
-use Prim.Native.Nat.{ℕ, zero, suc, _+_, _*_, _-_, _%_, _<_, _≤_}
+use Prim.Native.Nat.{ℕ, zero, suc, _+_, _*_, _-_, _<_, _≤_}
 use mathlib.Core.List.{List, []}
 use mathlib.Core.Path.{_≡_, refl, sym, _∙_, ap}
 use native.Mathlib.Nat.{mul-suc}
@@ -13,7 +13,7 @@ use Rattle.bytes.specs.Number.{number, tag}
 use Rattle.bytes.specs.Reader.{Reader, Outcome, run, string, then, times}
 use Rattle.bytes.specs.Reader.Reader.{done, skip}
 use Rattle.bytes.specs.Reader.Outcome.{read, fault}
-use Rattle.bytes.proofs.Extent.{ends-after, ends-within}
+use Rattle.bytes.proofs.Extent.{ends-after}
 use Rattle.bytes.proofs.Times.{joined, one-more, none-yet, found-list, past-none, past-more, times-stops, past-read, past-fault, goes-on, stops}
 use Rattle.bytes.proofs.Onward.{until-on, until-stops, skip-on, skip-stops, number-on, number-stops, number-moves, tag-on, tag-stops}
 use Rattle.dna.specs.Catalogue.{Struct, text, padding, strings, listed, size, sized, field, struct, structured, fieldCount}
@@ -46,29 +46,6 @@ module _ {A : Type 0} (r : Reader A) (s : List ℕ) (left at : ℕ) where
       let k : left ≡ 0 = omega arith in
       rw k (past-none r s at)
 
--- padding, one byte less of it with each byte more
-mod-next : (n r : ℕ) → n % 4 ≡ r → r < 3 → (n + 1) % 4 ≡ r + 1
-mod-next n r e h = omega arith
-
-mod-wrap : (n : ℕ) → n % 4 ≡ 3 → (n + 1) % 4 ≡ 0
-mod-wrap n e = omega arith
-
-pub pad-less : (n : ℕ) → (n % 4 ≡ 0 → ⊥) → padding n ≡ padding (n + 1) + 1
-pad-less n z = go (n % 4) refl (omega arith)
-  where
-    go : (r : ℕ) → n % 4 ≡ r → r < 4 → padding n ≡ padding (n + 1) + 1
-    go zero e h = absurd (z e)
-    go (suc zero) e h = rw (e, mod-next n 1 e (omega arith))
-    go (suc (suc zero)) e h = rw (e, mod-next n 2 e (omega arith))
-    go (suc (suc (suc zero))) e h = rw (e, mod-wrap n e)
-    go (suc (suc (suc (suc r)))) e h = absurd (omega arith)
-
-pub pad-none : (n : ℕ) → n % 4 ≡ 0 → padding n ≡ 0
-pad-none n e = rw e
-
-pub pad-le : (n : ℕ) → padding n < 4
-pad-le n = omega arith
-
 -- what n turns of a tree came to, where they came to an end
 module _ {A : Type 0} (r : Reader A) (s : List ℕ) (n at end : ℕ) (h : read tt end ≡ past (run (times n r) s at)) where
   all-read : run (times n r) s at ≡ read (leading n r s at) end
@@ -79,9 +56,6 @@ module _ {A : Type 0} (r : Reader A) (s : List ℕ) (n at end : ℕ) (h : read t
 
   pub all-after : at ≤ end
   all-after = ends-after (times n r) s at _ end all-read
-
-  pub all-within : end - at ≤ length s
-  all-within = ends-within (times n r) s at _ end all-read
 
   pub all-on : {B : Type 0} (f : List A → Reader B) → run (then (times n r) f) s at ≡ run (f (leading n r s at)) s end
   all-on f = goes-on (times n r) f s at _ end all-read

@@ -1,5 +1,5 @@
 -- The rules at small inputs, computed.
-use Prim.Native.Nat.{ℕ, _*_, _%_}
+use Prim.Native.Nat.{ℕ, _+_, _*_, _%_, _≤_}
 use mathlib.Core.List.{List, [], _∷_, _++_}
 use mathlib.Core.Path.{_≡_, refl}
 use native.Mathlib.Omega.{arith}
@@ -52,3 +52,7 @@ stopped = (refl, refl)
 -- m sizes of 2 bytes have padding of 2 bytes if m is odd, and none if it is even
 sizes-padding : (m : ℕ) → padding (2 * m) ≡ 2 * (m % 2)
 sizes-padding m = omega arith
+
+-- The Rust adds one until the sum divides by four. That is the same number: the sum with the padding does, and with fewer it does not.
+padding-first : (n : ℕ) → ((n + padding n) % 4 ≡ 0) × ((k : ℕ) → (n + k) % 4 ≡ 0 → padding n ≤ k)
+padding-first n = (omega arith, λ k e. omega (arith, e))

@@ -109,14 +109,9 @@ pub(crate) enum Laid {
 
 // How many bytes are missing to a multiple of 4.
 fn padding(n: usize) -> usize
-    requires { ⌜ n < 2 ^ 63 ⌝ }
     ensures { λ r. ⌜ r ≡ rules.padding n ⌝ }
 {
-    let mut sum = n;
-    while sum % 4 != 0 {
-        sum += 1;
-    }
-    sum - n
+    (4 - n % 4) % 4
 }
 
 // Past n zero-ended strings.

@@ -1,11 +1,10 @@
 -- `list_strings`: strings, and the padding over all their bytes.
 use mathlib.Core.Path.{sym, _∙_, ap}
-use native.Mathlib.Omega.{arith}
 use borrow.Author.Needs.{needs}
 use denote.Ref.{now}
 use Rattle.bytes.specs.Cursor.{moved}
 use Rattle.dna.specs.Catalogue.{text, strings}
-use Rattle.dna.proofs.Counting.{all-many, all-after, all-within, strings-stop, padding-stops, padding-read}
+use Rattle.dna.proofs.Counting.{all-many, all-after, strings-stop, padding-stops, padding-read}
 use Rattle.dna.proofs.dna.list_strings.Statement.{statement}
 use Rattle.dna.proofs.dna.list_strings.Tie as tie
 
@@ -24,10 +23,7 @@ sub-padding c =
     all-after text (now (c4 .before .before .args .s)) _ _ _ (ap moved (sym (c .before .before .end .given .1)) ∙ c4 .strings .ensures)
 
 padding-requires : tie.Need-padding-requires
-padding-requires c κs =
-    let c4 = c .before .before .before .before in
-    let h = all-within text (now (c4 .before .before .args .s)) _ _ _ (ap moved (sym (c .before .before .end .given .1)) ∙ c4 .strings .ensures) in
-    omega (arith, c4 .before .before .good .0 .1)
+padding-requires c κs = search needs
 
 skip-requires : tie.Need-skip-requires
 skip-requires c κs = search needs

@@ -1,11 +1,10 @@
 -- `sizes`: the mark, the sizes, and the padding over their bytes: 2 bytes each.
 use mathlib.Core.Path.{sym, _∙_, ap}
-use native.Mathlib.Omega.{arith}
 use borrow.Author.Needs.{needs}
 use denote.Ref.{now}
 use Rattle.bytes.specs.Cursor.{moved}
 use Rattle.dna.specs.Catalogue.{size}
-use Rattle.dna.proofs.Counting.{all-many, all-after, all-within, no-tlen, sizes-stop, sizes-padding-stops, sizes-read}
+use Rattle.dna.proofs.Counting.{all-many, all-after, no-tlen, sizes-stop, sizes-padding-stops, sizes-read}
 use Rattle.dna.proofs.dna.sizes.Statement.{statement}
 use Rattle.dna.proofs.dna.sizes.Tie as tie
 
@@ -39,13 +38,7 @@ sub-padding c =
     all-after (size (a .e)) (now (a .s)) _ _ _ (ap moved (sym (c .before .before .before .end .given .1)) ∙ c4 .before .sizes-past .ensures (a .e))
 
 padding-requires : tie.Need-padding-requires
-padding-requires c κs =
-    let c4 = c .before .before .before .before in
-    let c8 = c4 .before .before .before .before in
-    let c12 = c8 .before .before .before .before in
-    let a = c12 .args in
-    let h = all-within (size (a .e)) (now (a .s)) _ _ _ (ap moved (sym (c .before .before .before .end .given .1)) ∙ c4 .before .sizes-past .ensures (a .e)) in
-    omega (arith, c12 .good)
+padding-requires c κs = search needs
 
 skip-requires : tie.Need-skip-requires
 skip-requires c κs = search needs
