@@ -1,4 +1,4 @@
--- The rules at small inputs, computed.
+-- The rules at small inputs, computed, and two laws of padding.
 use Prim.Native.Nat.{ℕ, _+_, _*_, _%_, _≤_}
 use mathlib.Core.List.{List, [], _∷_, _++_}
 use mathlib.Core.Path.{_≡_, refl}
