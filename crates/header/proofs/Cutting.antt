@@ -1,16 +1,13 @@
 -- A header that is cut: refusal 1 where its magic is, and otherwise a cut.
 use Prim.Native.Nat.{ℕ, _+_, _≤_, _<_}
 use mathlib.Core.Bool.{Bool, true, false}
-use mathlib.Core.List.{List, [], _∷_}
+use mathlib.Core.List.{List}
 use mathlib.Core.Path.{_≡_, refl, sym, _∙_, ap}
 use native.Mathlib.Omega.{arith}
 use borrow.Author.Tests.{lt-leb}
 use lib.ListN.{length, take, drop}
 use lib.Seq.{length-take-le, take-take}
-use Rattle.bytes.specs.declared.Endianness.{Endianness}
-use Rattle.bytes.specs.declared.Endianness.the-variants.{Little, Big}
 use Rattle.bytes.specs.declared.Fault.the-variants.{Refusal}
-use Rattle.bytes.specs.declared.PointerSize.{PointerSize}
 use Rattle.bytes.specs.declared.PointerSize.the-variants.{Bits32, Bits64}
 use Rattle.bytes.specs.Ascii.{ascii}
 use Rattle.bytes.specs.Reader.{Reader, Outcome, run, same, stands}
@@ -20,28 +17,16 @@ use Rattle.bytes.proofs.Cutting.{CutWithin, Wanting, wanting-tag, cut-read}
 use Rattle.bytes.proofs.Marks.{stands-cut}
 use Rattle.bytes.proofs.Tests.{held, failed}
 use Rattle.header.specs.declared.FileFormat.the-variants.{Legacy, New}
-use Rattle.header.specs.Header.Part.{pointerSize, byteOrder, unchecked, version}
-use Rattle.header.specs.Header.{Part, parts, magic, withPointer, withOrder, withUnchecked, withVersion, partsRead, untold, HeaderBytes, oneOf, pointerMark, orderMark, legacy, new, headerBytes}
+use Rattle.header.specs.Header.{Part, parts, magic, partsRead, untold, HeaderBytes, oneOf, legacy, new, headerBytes}
+use Rattle.header.proofs.Trees.{of-parts}
 
 module _ {A B : Type 0} (m : List ℕ) (a : A) (n : List ℕ) (b : A) (k : A → Reader B) (f : (x : A) → Wanting (k x)) (e : length n ≡ length m) where
   mark-wanting : Wanting (oneOf m a n b k)
   unfolding run
   mark-wanting = (f a, wanting-tag n (k b) (f b), λ s at h l. (at, failed _ _ (lt-leb (at + length n) (length s) (rw e l)), h))
 
-module _ {B : Type 0} where
-  pointer-wanting : (k : PointerSize → Reader B) → ((p : PointerSize) → Wanting (k p)) → Wanting (pointerMark k)
-  pointer-wanting k f = mark-wanting (ascii "_") Bits32 (ascii "-") Bits64 k f refl
-
-  order-wanting : (k : Endianness → Reader B) → ((e : Endianness) → Wanting (k e)) → Wanting (orderMark k)
-  order-wanting k f = mark-wanting (ascii "v") Little (ascii "V") Big k f refl
-
 parts-wanting : (ps : List Part) (b : HeaderBytes) → Wanting (partsRead ps b)
-unfolding partsRead
-parts-wanting [] b = tt
-parts-wanting (pointerSize ∷ ps) b = pointer-wanting (λ p. partsRead ps (withPointer b p)) (λ p. parts-wanting ps (withPointer b p))
-parts-wanting (byteOrder ∷ ps) b = order-wanting (λ e. partsRead ps (withOrder b e)) (λ e. parts-wanting ps (withOrder b e))
-parts-wanting (unchecked n ∷ ps) b = λ u. parts-wanting ps (withUnchecked b u)
-parts-wanting (version n ∷ ps) b = λ v. parts-wanting ps (withVersion b v)
+parts-wanting ps b = of-parts Wanting (λ c. tt) (λ n k f. f) (λ A m x n y k e f. mark-wanting m x n y k f e) ps b
 
 -- a header after its magic
 abbrev edition : Reader HeaderBytes

@@ -2,6 +2,7 @@
 pub mod Versions
 pub mod Lengths
 pub mod Headers
+pub mod Trees
 pub mod Own
 pub mod Cutting
 pub mod Lossless

@@ -1,13 +1,10 @@
 -- What the tree of the header finds depends on the bytes that it takes, and on no others.
 use Prim.Native.Nat.{ℕ, _+_, _≤_}
 use mathlib.Core.Bool.{Bool, true, false}
-use mathlib.Core.List.{List, [], _∷_}
-use mathlib.Core.Path.{_≡_, refl, ap}
+use mathlib.Core.List.{List}
+use mathlib.Core.Path.{_≡_, ap}
 use native.Mathlib.Omega.{arith}
 use lib.ListN.{length, take, drop, length-take}
-use Rattle.bytes.specs.declared.Endianness.{Endianness}
-use Rattle.bytes.specs.declared.Endianness.the-variants.{Little, Big}
-use Rattle.bytes.specs.declared.PointerSize.{PointerSize}
 use Rattle.bytes.specs.declared.PointerSize.the-variants.{Bits32, Bits64}
 use Rattle.bytes.specs.Ascii.{ascii}
 use Rattle.bytes.specs.Number.{tag}
@@ -19,8 +16,8 @@ use Rattle.bytes.proofs.Going.{bytes-move}
 use Rattle.bytes.proofs.Same.{Finds}
 use Rattle.bytes.proofs.Unaltered.{grows, way}
 use Rattle.header.specs.declared.FileFormat.the-variants.{Legacy, New}
-use Rattle.header.specs.Header.Part.{pointerSize, byteOrder, unchecked, version}
-use Rattle.header.specs.Header.{Part, parts, withPointer, withOrder, withUnchecked, withVersion, partsRead, untold, HeaderBytes, oneOf, pointerMark, orderMark, legacy, new, headerBytes}
+use Rattle.header.specs.Header.{Part, parts, partsRead, untold, HeaderBytes, oneOf, legacy, new, headerBytes}
+use Rattle.header.proofs.Trees.{of-parts}
 use Rattle.bytes.proofs.Own.{Sober, own, front}
 
 module _ {A B : Type 0} (m : List ℕ) (a : A) (n : List ℕ) (b : A) (k : A → Reader B) (f : (x : A) → Sober (k x)) (e : length n ≡ length m) where
@@ -34,20 +31,8 @@ module _ {A B : Type 0} (m : List ℕ) (a : A) (n : List ℕ) (b : A) (k : A →
   mark-sober : Sober (oneOf m a n b k)
   mark-sober = (f a, tag-sober, λ s at. rw (← e) (bytes-move (length n) _ s at))
 
-module _ {B : Type 0} where
-  pointer-sober : (k : PointerSize → Reader B) → ((p : PointerSize) → Sober (k p)) → Sober (pointerMark k)
-  pointer-sober k f = mark-sober (ascii "_") Bits32 (ascii "-") Bits64 k f refl
-
-  order-sober : (k : Endianness → Reader B) → ((e : Endianness) → Sober (k e)) → Sober (orderMark k)
-  order-sober k f = mark-sober (ascii "v") Little (ascii "V") Big k f refl
-
 parts-sober : (ps : List Part) (b : HeaderBytes) → Sober (partsRead ps b)
-unfolding partsRead
-parts-sober [] b = tt
-parts-sober (pointerSize ∷ ps) b = pointer-sober (λ p. partsRead ps (withPointer b p)) (λ p. parts-sober ps (withPointer b p))
-parts-sober (byteOrder ∷ ps) b = order-sober (λ e. partsRead ps (withOrder b e)) (λ e. parts-sober ps (withOrder b e))
-parts-sober (unchecked n ∷ ps) b = λ u. parts-sober ps (withUnchecked b u)
-parts-sober (version n ∷ ps) b = λ v. parts-sober ps (withVersion b v)
+parts-sober ps b = of-parts Sober (λ c. tt) (λ n k f. f) (λ A m x n y k e f. mark-sober m x n y k f e) ps b
 
 -- after "BLENDER" at least a byte is read, whichever the edition
 module _ (s : List ℕ) (at : ℕ) where
