@@ -18,7 +18,7 @@ use header::Header;
 use header::blend::{HeaderAnswer, header, refusal_of};
 
 // Whether a block is taken, or the number of its refusal.
-#[derive(Drop)]
+#[derive(Clone, Copy)]
 enum Taking {
     Yes,
     No(u64),
@@ -39,7 +39,7 @@ fn taken(takes: Takes, count: u64) -> Taking
 }
 
 // A block's row and the next boundary.
-#[derive(Drop)]
+#[derive(Clone, Copy)]
 enum RowRead {
     Is(Row, usize),
     Stopped(Fault),
@@ -85,14 +85,14 @@ fn block(c: Cursor, s: &[u8], h: Header) -> RowRead
 }
 
 /// Of the last block before a boundary: its catalogue's counts where it is a DNA1.
-#[derive(Drop)]
+#[derive(Clone, Copy)]
 pub enum Last {
     Other,
     Dna(DnaCounts),
 }
 
 /// What is at a boundary: the end mark; or a block's row, what it is as a last block, and the next boundary; or the fault.
-#[derive(Drop)]
+#[derive(Clone, Copy)]
 pub enum Boundary {
     EndMark,
     Block(Row, Last, usize),
@@ -144,14 +144,14 @@ pub fn boundary_at(s: &[u8], h: Header, at: usize) -> Boundary
 }
 
 // How many rows a chain has, the counts of its last DNA1 and the offset after its end mark; or the earliest fault.
-#[derive(Drop)]
+#[derive(Clone, Copy)]
 enum Chained {
     Ends(usize, DnaCounts, usize),
     Stopped(Fault),
 }
 
 // How far the first pass has come: the next boundary, how many rows lie before it, and what the last of them is.
-#[derive(Drop)]
+#[derive(Clone, Copy)]
 struct Pass {
     at: usize,
     rows: usize,
@@ -246,7 +246,7 @@ fn fill_rows(s: &[u8], h: Header, from: usize, n: usize, table: &mut [u64])
 }
 
 /// A file that is read: its header, how many rows its blocks have, the offset after the end mark, and what the last DNA1 has.
-#[derive(Drop)]
+#[derive(Clone, Copy)]
 pub struct RawBlend {
     pub header: Header,
     pub rows: usize,
@@ -255,7 +255,7 @@ pub struct RawBlend {
 }
 
 /// A file that is read, or why it is not.
-#[derive(Drop)]
+#[derive(Clone, Copy)]
 pub enum BlendAnswer {
     Is(RawBlend),
     // Why it is refused, and where.

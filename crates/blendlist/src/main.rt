@@ -1,4 +1,6 @@
 // Lists the blocks of the file that standard input has.
+#![tactic(auto)]
+
 use blend::blend::{BlendAnswer, RawBlend, blend};
 use block::Row;
 use octets::{Endianness, Fault, PointerSize};

@@ -36,7 +36,7 @@ fn address_width(p: PointerSize) -> Width
 }
 
 /// A block header, and the place after it.
-#[derive(Drop)]
+#[derive(Clone, Copy)]
 pub enum BlockHeaderRead {
     Is(BlockHeader, Cursor),
     Stopped(Fault),

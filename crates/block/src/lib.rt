@@ -1,10 +1,12 @@
 // The values that a reading of a file's blocks has: the types of parsers/blend.rs of the Rust, and a block's row.
+#![tactic(auto)]
+
 pub mod blend;
 
 ghost use Rattle.block.specs.Calls as calls;
 
 /// What a block header says.
-#[derive(Drop)]
+#[derive(Clone, Copy)]
 pub struct BlockHeader {
     pub code: u64,
     pub size: u64,
@@ -29,7 +31,7 @@ impl BlockHeader {
 }
 
 /// What a block is, by its code: the variants of the Rust's Block, and a code that is none of them.
-#[derive(Drop)]
+#[derive(Clone, Copy)]
 pub enum Kind {
     Rend,
     Test,
@@ -72,7 +74,7 @@ impl Kind {
 }
 
 /// How a block is taken, by its kind.
-#[derive(Drop)]
+#[derive(Clone, Copy)]
 pub enum Takes {
     Always,
     // Where its count is 1.
@@ -81,7 +83,7 @@ pub enum Takes {
 }
 
 /// What follows from a block's kind.
-#[derive(Drop)]
+#[derive(Clone, Copy)]
 pub struct About {
     pub takes: Takes,
     // Whether it is found by its address.
@@ -123,7 +125,7 @@ impl Kind {
 }
 
 /// A block as the row table has it: its header's numbers but for the size, where its header and its payload start, and the payload's length.
-#[derive(Drop)]
+#[derive(Clone, Copy)]
 pub struct Row {
     pub code: u64,
     pub address: u64,

@@ -1,5 +1,7 @@
 // What the rules of the other crates promise an auditor: specs/ has the statements, proofs/ their proofs. The two functions here read as `blend` does, and their contracts
 // are the demands themselves.
+#![tactic(auto)]
+
 ghost use Rattle.demands.specs.Calls as calls;
 
 use blend::blend::{BlendAnswer, blend};
@@ -12,7 +14,7 @@ pub fn read(file: &[u8], table: &mut [u64]) -> BlendAnswer
 }
 
 /// The answers of two files.
-#[derive(Drop)]
+#[derive(Clone, Copy)]
 pub struct Two {
     pub one: BlendAnswer,
     pub other: BlendAnswer,

@@ -13,22 +13,22 @@ use octets::{Endianness, Fault};
 use primitive::primitive::{ValueU16, parse_u16};
 
 /// A number in the list of types, and one in the list of names. Neither stands in for the other.
-#[derive(Drop)]
+#[derive(Clone, Copy)]
 pub struct TypeNumber(pub u64);
 
 /// The number of a name in the catalogue.
-#[derive(Drop)]
+#[derive(Clone, Copy)]
 pub struct NameNumber(pub u64);
 
 /// A field of a struct: its type and its name, by their numbers.
-#[derive(Drop)]
+#[derive(Clone, Copy)]
 pub struct DnaField {
     pub type_index: TypeNumber,
     pub name_index: NameNumber,
 }
 
 /// How many names, types, structs and fields a catalogue has.
-#[derive(Drop)]
+#[derive(Clone, Copy)]
 pub struct DnaCounts {
     pub names: u64,
     pub types: u64,
@@ -37,14 +37,14 @@ pub struct DnaCounts {
 }
 
 /// What a payload has, and the place after its last struct; or where and why it does not read.
-#[derive(Drop)]
+#[derive(Clone, Copy)]
 pub enum DnaCounted {
     Are(DnaCounts, usize),
     Stopped(Fault),
 }
 
 /// What dna answers: the counts; where and why the payload does not read; or refusal 8 with the first table that is too short and the rows that it needs.
-#[derive(Drop)]
+#[derive(Clone, Copy)]
 pub enum DnaTables {
     Are(DnaCounts),
     Refused(Fault),
@@ -52,42 +52,42 @@ pub enum DnaTables {
 }
 
 // A list of strings: how many, where they start, and the place after the padding.
-#[derive(Drop)]
+#[derive(Clone, Copy)]
 pub(crate) enum Listed {
     Are(u64, usize, usize),
     Stopped(Fault),
 }
 
 // Sizes: where they start, and the place after the padding.
-#[derive(Drop)]
+#[derive(Clone, Copy)]
 pub(crate) enum Sized {
     Are(usize, usize),
     Stopped(Fault),
 }
 
 // A struct without its fields: its type, how many fields it has, and the place after them.
-#[derive(Drop)]
+#[derive(Clone, Copy)]
 pub(crate) enum OneStruct {
     Is(TypeNumber, u64, Cursor),
     Stopped(Fault),
 }
 
 // How many fields some structs have together, and the place after them.
-#[derive(Drop)]
+#[derive(Clone, Copy)]
 pub(crate) enum StructTotal {
     Are(u64, Cursor),
     Stopped(Fault),
 }
 
 // Structs: how many, how many fields they have together, where they start, and the place after them.
-#[derive(Drop)]
+#[derive(Clone, Copy)]
 pub(crate) enum Structs {
     Are(u64, u64, usize, usize),
     Stopped(Fault),
 }
 
 // Where the lists of a catalogue start, how many elements each has, and the place after the last struct.
-#[derive(Drop)]
+#[derive(Clone, Copy)]
 pub(crate) struct Layout {
     pub names: u64,
     pub types: u64,
@@ -101,13 +101,13 @@ pub(crate) struct Layout {
 }
 
 // A list of strings that was found: how many, and where they start.
-#[derive(Drop)]
+#[derive(Clone, Copy)]
 pub(crate) struct Span {
     pub count: u64,
     pub at: usize,
 }
 
-#[derive(Drop)]
+#[derive(Clone, Copy)]
 pub(crate) enum Laid {
     Is(Layout),
     Stopped(Fault),

@@ -1,6 +1,8 @@
 // The library for other languages: numbers, slices and structs of numbers in, a struct of numbers by value out. Each function calls one of the reader's and tells its answer
 // in numbers, refusals by document 01's; the contract says so by the reader's own definitions. A slice crosses as a pointer and a length. blend.h says what each
 // function is for.
+#![tactic(auto)]
+
 ghost use Rattle.std.specs.Prelude.{◌≡◌, [], ◌∷◌, length};
 ghost use Rattle.octets.specs.Paper.Paper.{refuses};
 ghost use Rattle.dna.specs.Catalogue as catalogues;
@@ -33,7 +35,7 @@ use writer::writer::{WriteAnswer, write};
 
 /// A file's header in numbers.
 #[repr(C)]
-#[derive(Drop)]
+#[derive(Clone, Copy)]
 pub struct BlendHeader {
     pub refusal: u64,
     pub fault_at: u64,
@@ -47,7 +49,7 @@ pub struct BlendHeader {
 
 /// What a reading of a file answers.
 #[repr(C)]
-#[derive(Drop)]
+#[derive(Clone, Copy)]
 pub struct BlendRead {
     pub refusal: u64,
     pub fault_at: u64,
@@ -67,7 +69,7 @@ pub struct BlendRead {
 
 /// What a step of a walk answers: a row, or the end, and the place that it hands back.
 #[repr(C)]
-#[derive(Drop)]
+#[derive(Clone, Copy)]
 pub struct BlendStep {
     pub refusal: u64,
     pub fault_at: u64,
@@ -86,7 +88,7 @@ pub struct BlendStep {
 
 /// What a reading of a catalogue answers.
 #[repr(C)]
-#[derive(Drop)]
+#[derive(Clone, Copy)]
 pub struct BlendCatalogue {
     pub refusal: u64,
     pub fault_at: u64,
@@ -100,7 +102,7 @@ pub struct BlendCatalogue {
 
 /// A field's declarator in numbers.
 #[repr(C)]
-#[derive(Drop)]
+#[derive(Clone, Copy)]
 pub struct BlendField {
     pub refusal: u64,
     pub needed: u64,
@@ -116,7 +118,7 @@ pub struct BlendField {
 
 /// Where a row's payload lies.
 #[repr(C)]
-#[derive(Drop)]
+#[derive(Clone, Copy)]
 pub struct BlendView {
     pub refusal: u64,
     pub at: u64,
@@ -125,7 +127,7 @@ pub struct BlendView {
 
 /// What an address points to.
 #[repr(C)]
-#[derive(Drop)]
+#[derive(Clone, Copy)]
 pub struct BlendPointer {
     pub refusal: u64,
     pub kind: u64,
@@ -134,7 +136,7 @@ pub struct BlendPointer {
 
 /// Whether an index was built.
 #[repr(C)]
-#[derive(Drop)]
+#[derive(Clone, Copy)]
 pub struct BlendIndex {
     pub refusal: u64,
     pub buckets: u64,
@@ -143,7 +145,7 @@ pub struct BlendIndex {
 
 /// What an address points to, by an index.
 #[repr(C)]
-#[derive(Drop)]
+#[derive(Clone, Copy)]
 pub struct BlendFound {
     pub refusal: u64,
     pub buckets: u64,
@@ -154,7 +156,7 @@ pub struct BlendFound {
 
 /// Whether a file was written.
 #[repr(C)]
-#[derive(Drop)]
+#[derive(Clone, Copy)]
 pub struct BlendWritten {
     pub refusal: u64,
     pub fault_at: u64,
@@ -165,7 +167,7 @@ pub struct BlendWritten {
 
 /// A number that a slice begins with.
 #[repr(C)]
-#[derive(Drop)]
+#[derive(Clone, Copy)]
 pub struct BlendValue {
     pub refusal: u64,
     pub value: u64,

@@ -9,14 +9,14 @@ use octets::cursor::{Counted, Cursor, Moved, before, stands_at};
 use octets::{Fault, PointerSize};
 
 /// An offset in the bytes handed in, and a length.
-#[derive(Drop)]
+#[derive(Clone, Copy)]
 pub struct Span {
     pub at: usize,
     pub len: usize,
 }
 
 /// What a declarator declares.
-#[derive(Drop)]
+#[derive(Clone, Copy)]
 pub enum FieldInfo {
     Value,
     ValueArray {
@@ -35,7 +35,7 @@ pub enum FieldInfo {
 }
 
 /// A declarator: its name's place, what is left of it, and what it declares.
-#[derive(Drop)]
+#[derive(Clone, Copy)]
 pub struct Declarator {
     pub name: Span,
     pub rest: Span,
@@ -43,7 +43,7 @@ pub struct Declarator {
 }
 
 /// What parse_field and scan_field answer: the declarator, or refusal 9, 10 or, from parse_field alone, 11 with the number of groups.
-#[derive(Drop)]
+#[derive(Clone, Copy)]
 pub enum ParsedField {
     Is(Declarator),
     Refused(u64),
@@ -51,34 +51,34 @@ pub enum ParsedField {
 }
 
 /// What fn_pointer answers: the declarator, or why the bytes are no function pointer, and where in them.
-#[derive(Drop)]
+#[derive(Clone, Copy)]
 pub enum FnPointerField {
     Is(Declarator),
     Refused(Fault),
 }
 
 /// What width answers: the number of bytes, or refusal 15 or 10.
-#[derive(Drop)]
+#[derive(Clone, Copy)]
 pub enum FieldWidth {
     Is(u64),
     Refused(u64),
 }
 
 // A product that 64 bits hold, or that they do not.
-#[derive(Drop)]
+#[derive(Clone, Copy)]
 pub(crate) enum Product {
     Is(u64),
     Over,
 }
 
-#[derive(Drop)]
+#[derive(Clone, Copy)]
 pub(crate) enum Decimal {
     Is(u64),
     Bad,
 }
 
 // What the group at the front of some bytes is: none that is complete, one that holds no number, or a number and how many bytes it takes.
-#[derive(Drop)]
+#[derive(Clone, Copy)]
 pub(crate) enum Group {
     Absent,
     Bad,
@@ -86,14 +86,14 @@ pub(crate) enum Group {
 }
 
 // All the groups at the front of some bytes: how many, their product, and how many bytes they take.
-#[derive(Drop)]
+#[derive(Clone, Copy)]
 pub(crate) enum Groups {
     Bad,
     Are(usize, Product, usize),
 }
 
 // A declarator before the table and the product are looked at.
-#[derive(Drop)]
+#[derive(Clone, Copy)]
 pub(crate) enum Scan {
     Plain(Declarator),
     Array(usize, Span, Span, usize, Product),

@@ -11,34 +11,34 @@ use octets::cursor::{Cursor, Moved};
 use octets::{Endianness, Fault, PointerSize};
 
 /// What a mark stands for, or a version, or a header, and the place after it.
-#[derive(Drop)]
+#[derive(Clone, Copy)]
 pub enum PointerSizeRead {
     Is(PointerSize, Cursor),
     Stopped(Fault),
 }
 
 /// What an order mark stands for, and the place after it.
-#[derive(Drop)]
+#[derive(Clone, Copy)]
 pub enum EndiannessRead {
     Is(Endianness, Cursor),
     Stopped(Fault),
 }
 
 /// A version, and the place after it.
-#[derive(Drop)]
+#[derive(Clone, Copy)]
 pub enum VersionRead {
     Is(Version, Cursor),
     Stopped(Fault),
 }
 
-#[derive(Drop)]
+#[derive(Clone, Copy)]
 enum HeaderRead {
     Is(Header, Cursor),
     Stopped(Fault),
 }
 
 /// A file's header and its length, or why it is refused, and where.
-#[derive(Drop)]
+#[derive(Clone, Copy)]
 pub enum HeaderAnswer {
     Is(Header, usize),
     Refused(Fault),

@@ -1,4 +1,6 @@
 // The values that a reading of a file's header has: the types of parsers/blend.rs of the Rust.
+#![tactic(auto)]
+
 pub mod blend;
 
 ghost use Rattle.std.specs.Prelude.{◌≡◌, ◌≤◌, ◌<◌, length, [], ◌∷◌};
@@ -8,7 +10,7 @@ ghost use Rattle.header.specs.Calls as calls;
 use octets::{Endianness, PointerSize};
 
 /// The on-disk layout of a blend file.
-#[derive(Drop)]
+#[derive(Clone, Copy)]
 pub enum FileFormat {
     /// Pre-5.0 format: 12-byte file header and a block header of
     /// `code(4) + size(u32) + address(ptr) + sdna_index(u32) + count(u32)`.
@@ -34,7 +36,7 @@ impl FileFormat {
     /// Returns the length of the file header in bytes.
     pub fn header_len(self) -> usize
         ensures fact { calls.FileFormat::header_len self result }
-        ensures* constants { do ⌜ ((← (⟦FileFormat::LEGACY_HEADER⟧).entry) ≡ 12) × ((← (⟦FileFormat::NEW_HEADER⟧).entry) ≡ 17) ⌝ }
+        ensures constants { (FileFormat.LEGACY_HEADER ≡ 12) × (FileFormat.NEW_HEADER ≡ 17) }
     {
         match self {
             FileFormat::Legacy => FileFormat::LEGACY_HEADER,
@@ -45,7 +47,7 @@ impl FileFormat {
     /// Returns the length of a block header in bytes: 20, 24, 28 or 32.
     pub fn block_header_len(self, pointer_size: PointerSize) -> usize
         ensures fact { calls.FileFormat::block_header_len self pointer_size result }
-        ensures* constants { do ⌜ ((← (⟦FileFormat::LEGACY_BLOCK⟧).entry) ≡ 16) × ((← (⟦FileFormat::NEW_BLOCK⟧).entry) ≡ 24) ⌝ }
+        ensures constants { (FileFormat.LEGACY_BLOCK ≡ 16) × (FileFormat.NEW_BLOCK ≡ 24) }
     {
         match self {
             FileFormat::Legacy => FileFormat::LEGACY_BLOCK + pointer_size.bytes_num(),
@@ -55,7 +57,7 @@ impl FileFormat {
 }
 
 /// The version of Blender used to save the blend file.
-#[derive(Drop)]
+#[derive(Clone, Copy)]
 pub struct Version {
     pub major: u16,
     pub minor: u16,
@@ -95,7 +97,7 @@ fn with_digit(n: u16, b: u8) -> u16
 }
 
 /// What the header of a file says.
-#[derive(Drop)]
+#[derive(Clone, Copy)]
 pub struct Header {
     /// The size of the pointer on the machine used to save the blend file.
     pub pointer_size: PointerSize,

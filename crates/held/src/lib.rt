@@ -1,5 +1,7 @@
 // Two calls of the reader in forms that hold references: a walker that holds the file's slice, and the search for an address in a lent list of
 // row records. Each is thin: what matters is in the crate `blend`, on plain parameters.
+#![tactic(auto)]
+
 ghost use Rattle.held.specs.Calls as calls;
 
 use block::Row;
@@ -8,7 +10,7 @@ use runtime::runtime::{Pointer, matches};
 use walker::{Place, Step};
 
 /// A walk that holds its file: the file and the place in it.
-#[derive(Drop)]
+#[derive(Clone, Copy)]
 pub struct Walker<'a> {
     pub file: &'a [u8],
     pub place: Place,

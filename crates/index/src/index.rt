@@ -11,7 +11,7 @@ use octets::Fault;
 use runtime::runtime::matches;
 
 /// Whether an index was built.
-#[derive(Drop)]
+#[derive(Clone, Copy)]
 pub enum Indexed {
     Built,
     // Refusal 13: the row table has fewer rows.
@@ -21,7 +21,7 @@ pub enum Indexed {
 }
 
 /// What an address points to, by an index.
-#[derive(Drop)]
+#[derive(Clone, Copy)]
 pub enum IndexPointer {
     Null,
     // The number of the row.

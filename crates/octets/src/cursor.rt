@@ -9,13 +9,13 @@ use crate::number::number;
 use crate::{Endianness, Fault};
 
 /// A place in a run of bytes: the offset of the next read.
-#[derive(Drop)]
+#[derive(Clone, Copy)]
 pub struct Cursor {
     pub at: usize,
 }
 
 /// How many bytes a number has.
-#[derive(Drop)]
+#[derive(Clone, Copy)]
 pub enum Width {
     One,
     Two,
@@ -38,28 +38,28 @@ impl Width {
 }
 
 /// A number and the place after it.
-#[derive(Drop)]
+#[derive(Clone, Copy)]
 pub enum Numbered {
     Is(u64, Cursor),
     Stopped(Fault),
 }
 
 /// The place after a run of bytes. The run itself starts at the place that was asked.
-#[derive(Drop)]
+#[derive(Clone, Copy)]
 pub enum Moved {
     To(Cursor),
     Stopped(Fault),
 }
 
 /// How many bytes stand before the one that ends a run, and the place after that one.
-#[derive(Drop)]
+#[derive(Clone, Copy)]
 pub enum Counted {
     Is(usize, Cursor),
     Stopped(Fault),
 }
 
 /// Whether a mark was there, and the place after it, or the same place where it was not.
-#[derive(Drop)]
+#[derive(Clone, Copy)]
 pub struct Begun {
     pub there: bool,
     pub next: Cursor,

@@ -1,4 +1,6 @@
 // Pointer size, byte order and where reading stops: parsers/mod.rs of the Rust.
+#![tactic(auto)]
+
 pub mod cursor;
 mod number;
 
@@ -6,7 +8,7 @@ ghost use Rattle.std.specs.Prelude.{◌≡◌};
 ghost use Rattle.octets.specs.Calls as calls;
 
 /// Size of a pointer on the machine used to create the .blend file.
-#[derive(Drop)]
+#[derive(Clone, Copy)]
 pub enum PointerSize {
     Bits32,
     Bits64,
@@ -22,7 +24,7 @@ impl PointerSize {
     /// Returns the pointer size in bytes.
     pub fn bytes_num(self) -> usize
         ensures fact { calls.PointerSize::bytes_num self result }
-        ensures* constants { do ⌜ ((← (⟦PointerSize::BYTES_32⟧).entry) ≡ 4) × ((← (⟦PointerSize::BYTES_64⟧).entry) ≡ 8) ⌝ }
+        ensures constants { (PointerSize.BYTES_32 ≡ 4) × (PointerSize.BYTES_64 ≡ 8) }
     {
         match self {
             PointerSize::Bits32 => PointerSize::BYTES_32,
@@ -32,14 +34,14 @@ impl PointerSize {
 }
 
 /// Endianness of the machine used to create the .blend file.
-#[derive(Drop)]
+#[derive(Clone, Copy)]
 pub enum Endianness {
     Little,
     Big,
 }
 
 /// Why reading stopped, and where: the offset of the failed read's first byte.
-#[derive(Drop)]
+#[derive(Clone, Copy)]
 pub enum Fault {
     /// Fewer bytes are left than the read wants, or the byte that ends a run never comes.
     Cut(usize),

@@ -1,3 +1,5 @@
 // Primitive values and their names: parsers/primitive.rs of the Rust.
+#![tactic(auto)]
+
 pub mod primitive;
 mod signed;

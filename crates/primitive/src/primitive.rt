@@ -7,63 +7,63 @@ use octets::cursor::{Cursor, Numbered, Width};
 use octets::{Endianness, Fault};
 
 /// An unsigned number of one byte, or refusal 12.
-#[derive(Drop)]
+#[derive(Clone, Copy)]
 pub enum ValueU8 {
     Is(u8),
     Refused(u64),
 }
 
 /// An unsigned number of two bytes, or refusal 12.
-#[derive(Drop)]
+#[derive(Clone, Copy)]
 pub enum ValueU16 {
     Is(u16),
     Refused(u64),
 }
 
 /// An unsigned number of four bytes, or refusal 12.
-#[derive(Drop)]
+#[derive(Clone, Copy)]
 pub enum ValueU32 {
     Is(u32),
     Refused(u64),
 }
 
 /// An unsigned number of eight bytes, or refusal 12.
-#[derive(Drop)]
+#[derive(Clone, Copy)]
 pub enum ValueU64 {
     Is(u64),
     Refused(u64),
 }
 
 /// A signed number of one byte, or refusal 12.
-#[derive(Drop)]
+#[derive(Clone, Copy)]
 pub enum ValueI8 {
     Is(i8),
     Refused(u64),
 }
 
 /// A signed number of two bytes, or refusal 12.
-#[derive(Drop)]
+#[derive(Clone, Copy)]
 pub enum ValueI16 {
     Is(i16),
     Refused(u64),
 }
 
 /// A signed number of four bytes, or refusal 12.
-#[derive(Drop)]
+#[derive(Clone, Copy)]
 pub enum ValueI32 {
     Is(i32),
     Refused(u64),
 }
 
 /// A signed number of eight bytes, or refusal 12.
-#[derive(Drop)]
+#[derive(Clone, Copy)]
 pub enum ValueI64 {
     Is(i64),
     Refused(u64),
 }
 
 /// A NaN's bits stand in a case of their own: no float of this language can be made of them.
-#[derive(Drop)]
+#[derive(Clone, Copy)]
 pub enum ValueF32 {
     Is(f32),
     Nan(u32),
@@ -71,7 +71,7 @@ pub enum ValueF32 {
 }
 
 /// A NaN's bits stand in a case of their own: no float of this language can be made of them.
-#[derive(Drop)]
+#[derive(Clone, Copy)]
 pub enum ValueF64 {
     Is(f64),
     Nan(u64),
@@ -196,7 +196,7 @@ pub fn parse_f64(slice: &[u8], endianness: Endianness) -> ValueF64
 }
 
 /// A kind's name in a catalogue: its bytes, zeros after them, and how many there are.
-#[derive(Drop)]
+#[derive(Clone, Copy)]
 pub struct Name {
     pub bytes: [u8; 8],
     pub len: usize,

@@ -9,7 +9,7 @@ use octets::Fault;
 use octets::cursor::{Cursor, Moved};
 
 /// Whether there is a view of a row.
-#[derive(Drop)]
+#[derive(Clone, Copy)]
 pub enum ViewAnswer {
     There,
     // Refusal 13.
@@ -56,7 +56,7 @@ pub fn view_part<'a>(file: &'a [u8], table: &[u64], row: usize) -> &'a [u8]
 }
 
 /// What an address points to.
-#[derive(Drop)]
+#[derive(Clone, Copy)]
 pub enum Pointer {
     Null,
     // The number of the row.
@@ -100,7 +100,7 @@ pub fn get_ptr(table: &[u64], rows: usize, address: u64) -> Pointer
 }
 
 /// A block's code, byte by byte.
-#[derive(Drop)]
+#[derive(Clone, Copy)]
 pub enum BlockCode {
     Is(u8, u8, u8, u8),
     None,

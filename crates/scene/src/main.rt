@@ -1,5 +1,7 @@
 // Reads the examples of files and nine real scenes: prints the blocks, walks them, and asks for their views, addresses and codes; then the
 // catalogue of a real scene, in both byte orders. The file stdout has what that has to be.
+#![tactic(auto)]
+
 mod catalogue;
 
 use blend::blend::{BlendAnswer, blend};

@@ -20,6 +20,8 @@
 //   `code none`; or the refusal as of a file.
 //
 // A record that is longer than the buffer is answered `too long`, and a batch that ends inside a record ends with the line `cut`.
+#![tactic(auto)]
+
 mod address;
 mod catalogue;
 mod declarator;

@@ -1,4 +1,6 @@
 // A walk from block to block (added): a place in a file, moved by value. The file is handed to every step.
+#![tactic(auto)]
+
 ghost use Rattle.std.specs.Prelude.{◌≡◌};
 ghost use Rattle.walker.specs.Walker as rules;
 ghost use Rattle.walker.specs.Calls as calls;
@@ -9,14 +11,14 @@ use octets::Fault;
 use header::blend::{HeaderAnswer, header, refusal_of};
 
 /// A boundary, and whether the block before it is a DNA1.
-#[derive(Drop)]
+#[derive(Clone, Copy)]
 pub struct Place {
     pub at: usize,
     pub dna: bool,
 }
 
 /// What a step finds, and the place that it hands back: the next one after a block, otherwise the same.
-#[derive(Drop)]
+#[derive(Clone, Copy)]
 pub enum Step {
     Block(Row, Place),
     // The offset after the end mark.

@@ -46,7 +46,7 @@ pub fn row_at(table: &[u64], row: usize) -> Row
 }
 
 // A row as the last one, or why it is refused.
-#[derive(Drop)]
+#[derive(Clone, Copy)]
 enum Judged {
     As(Last),
     Stopped(Fault),
@@ -210,7 +210,7 @@ fn first_unfit(h: Header, table: &[u64], rows: usize) -> usize
 }
 
 // A length that 64 bits hold, or that they do not.
-#[derive(Drop)]
+#[derive(Clone, Copy)]
 enum Length {
     Is(usize),
     Over,
@@ -256,7 +256,7 @@ fn file_length(h: Header, table: &[u64], rows: usize) -> Length
 }
 
 /// How many bytes a file needs, or why it cannot be written.
-#[derive(Drop)]
+#[derive(Clone, Copy)]
 pub enum Needed {
     Bytes(usize),
     // Why a row or the row count is refused, or that the length does not fit into 64 bits.

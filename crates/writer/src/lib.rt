@@ -1,2 +1,4 @@
+#![tactic(auto)]
+
 mod put;
 pub mod writer;

@@ -30,7 +30,7 @@ pub(crate) fn put_one(out: &mut [u8], at: usize, n: u64, order: Endianness) -> u
 }
 
 // The two numbers whose bytes make those of a number of twice the width, in the order in which they stand: `base` is how many numbers a half can be.
-#[derive(Drop)]
+#[derive(Clone, Copy)]
 struct Halves {
     first: u64,
     second: u64,

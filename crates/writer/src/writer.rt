@@ -20,7 +20,7 @@ use header::{FileFormat, Header, Version};
 use writable::writable::{Needed, bytes_needed, row_at};
 
 /// How many bytes were written, or why none was.
-#[derive(Drop)]
+#[derive(Clone, Copy)]
 pub enum WriteAnswer {
     Written(usize),
     // Why a row or the row count is refused, or that the length does not fit into 64 bits.

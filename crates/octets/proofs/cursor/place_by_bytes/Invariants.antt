@@ -1,0 +1,15 @@
+-- `place_by_bytes` counts on from a place. The invariant: there was none so far, so the count goes on from here.
+use Prim.Native.Nat.{◌+◌, ◌-◌, ◌≤◌}
+use mathlib.Core.Path.{◌≡◌, refl}
+use native.Mathlib.Omega.{arith}
+use borrow.Author.Rules.{rules}
+use lib.ListN.{length, drop}
+use Rattle.octets.specs.Reader as rules
+use Rattle.octets.proofs.Marks.{found_here, found_later, found_never}
+use Rattle.octets.proofs.cursor.place_by_bytes.Given as goal
+
+abbrev pub invariant-loop-i : goal.invariant-loop-i
+invariant-loop-i l = (l.i ≤ length l.s) × (l.from + rules.before l.c (drop l.from l.s) ≡ l.i + rules.before l.c (drop l.i l.s))
+
+abbrev pub decreases-loop-i : goal.decreases-loop-i
+decreases-loop-i l = length l.s - l.i
