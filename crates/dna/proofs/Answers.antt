@@ -122,7 +122,7 @@ module _ (e : Endianness) (s : List ℕ) (l : Layout) (o : Outcome Dna) (w : Who
   counts_are : counts (dna_at e s l) ≡ its_counts
   counts_are =
       ap (λ (n : ℕ). record { names = n; types = length (dna_at e s l).types; structs = length (dna_at e s l).structs; fields = field_count (dna_at e s l).structs }) w.names_are
-      ∙ ap (λ (n : ℕ). record { names = l.names; types = n; structs = length (dna_at e s l).structs; fields = field_count (dna_at e s l).structs }) w.types-are
+      ∙ ap (λ (n : ℕ). record { names = l.names; types = n; structs = length (dna_at e s l).structs; fields = field_count (dna_at e s l).structs }) w.types_are
       ∙ ap (λ (n : ℕ). record { names = l.names; types = l.types; structs = n; fields = field_count (dna_at e s l).structs }) w.structs_are
       ∙ ap (λ (n : ℕ). record { names = l.names; types = l.types; structs = l.structs; fields = n }) w.fields_are
 
@@ -148,7 +148,7 @@ module _ (e : Endianness) (s : List ℕ) (l : Layout) (o : Outcome Dna) (w : Who
     names-room = omega (arith, f.names-fit, pairs-length (dna_at e s l).names, w.names_are)
 
     pub types-room : length (type_rows (dna_at e s l).types (dna_at e s l).sizes) ≤ b
-    types-room = omega (arith, f.types-fit, types-length (dna_at e s l).types (dna_at e s l).sizes (w.sizes_are ∙ sym w.types-are), w.types-are)
+    types-room = omega (arith, f.types-fit, types-length (dna_at e s l).types (dna_at e s l).sizes (w.sizes_are ∙ sym w.types_are), w.types_are)
 
     pub structs-room : length (struct_rows 0 (dna_at e s l).structs) ≤ c
     structs-room = omega (arith, f.structs-fit, structs-length 0 (dna_at e s l).structs, w.structs_are)
