@@ -1,0 +1,19 @@
+-- `fill_rows`: a row a turn, up to the last.
+use mathlib.Core.Path.{◌≡◌}
+use native.Mathlib.Omega.{arith}
+use lib.ListN.{length}
+use Rattle.octets.proofs.Filling.{Storing, storing_from-front, storing_ends, row_fits_lem, row-stored}
+use Rattle.header.specs.Layout.{block_header_length}
+use Rattle.block.specs.Rows.{row_numbers, row_table}
+use Rattle.blend.specs.Helpers.{rows_from}
+use Rattle.blend.proofs.Chains.{rows_more, rows_none}
+use Rattle.blend.proofs.There.{next_fits, next-is}
+use borrow.Author.Rules.{rules}
+use Rattle.blend.proofs.blend.fill_rows.Given as goal
+
+abbrev pub invariant-loop-left : goal.invariant-loop-left
+invariant-loop-left l =
+    Storing l.initial.table 0 (row_table (rows_from l.n l.h l.s l.from)) l.table l.i (row_table (rows_from l.left l.h l.s l.at)) × (length (rows_from l.left l.h l.s l.at) ≡ l.left)
+
+abbrev pub decreases-loop-left : goal.decreases-loop-left
+decreases-loop-left l = l.left
