@@ -1,0 +1,19 @@
+-- `file_length`: the sum so far and what is left make the whole.
+use Prim.Native.Nat.{◌+◌, ◌-◌, ◌/◌, ◌^◌, ◌≤◌}
+use mathlib.Core.List.{List}
+use Rattle.block.specs.declared.Row.{Row}
+use mathlib.Core.Path.{◌≡◌, sym, ◌∙◌, ap}
+use native.Mathlib.Omega.{arith}
+use lib.ListN.{length}
+use borrow.Author.Rules.{rules}
+use Rattle.block.specs.Rows.{per_row, rows_spelt}
+use Rattle.writable.specs.Writable.{blocks_length}
+use Rattle.writable.proofs.Judging.{row_known, rows_all}
+use Rattle.writable.proofs.Fitting.{header_at-most, sum_over, sum_more, sum-ends}
+use Rattle.writable.proofs.writable.file_length.Given as goal
+
+abbrev pub invariant-loop-row : goal.invariant-loop-row
+invariant-loop-row l = (l.initial.sum + blocks_length l.header (rows_spelt l.table l.rows 0) ≡ l.sum + blocks_length l.header (rows_spelt l.table (l.rows - l.row) l.row)) × (l.rows ≤ length l.table / per_row) × (l.sum ≤ 2 ^ 64 - 1)
+
+abbrev pub decreases-loop-row : goal.decreases-loop-row
+decreases-loop-row l = l.rows - l.row
