@@ -25,8 +25,8 @@ def of_a_function(path):
 def strip(line):
     return '' if line.lstrip().startswith('--') else line.split(' -- ')[0]
 
-# Of two modules that never meet: a rule, and what a public call of its name promises.
-APART = {'rowIs', 'row_is'}
+# Beside `row_is`, what a public call promises, stands the rule that it goes by.
+GIVEN = {'rowIs': 'is_row'}
 
 SIG = re.compile(r'^(\s*)((?:(?:abbrev|unfoldable|pattern|pub|data|record)\s+)*)([^\s(){}.;,@"\[\]|]+)\s+(?:\{ℓ\}\s+)?(?:\([^:]*:[^=]*)?:\s')
 
@@ -94,7 +94,7 @@ def main():
                 names[m.group(1)].add(path)
     table = {}
     for n in names:
-        to = dashes(snake(n), known)
+        to = GIVEN.get(n) or dashes(snake(n), known)
         if to != n:
             table[n] = to
     # local names of signatures turn with the rest of their file where they are camel-cased
@@ -109,7 +109,7 @@ def main():
             o = lemmas.pop(0)
             olds.discard(o)
             table[o] = to + '_lem'
-        if len(olds) > 1 and not olds <= APART:
+        if len(olds) > 1:
             print('fall together:', to, sorted(olds), [sorted(names[o]) for o in olds])
             bad = True
     rust = rust_words()

@@ -1,6 +1,4 @@
--- The walks by hand, and the laws that they cite.
-pub mod Walk
-pub mod Past
+-- The laws that the proofs cite, and those that the crates above cite.
 pub mod Seek
 pub mod Same
 pub mod Walks

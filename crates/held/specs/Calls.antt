@@ -10,7 +10,7 @@ use Rattle.walker.specs.Calls.{«Place::step»}
 use Rattle.walker.specs.Walker.{start}
 use Rattle.runtime.specs.Addresses.{paper_pointer}
 use Rattle.held.specs.declared.Walker.{Walker}
-use Rattle.held.specs.Held.{row_is, lookup_rows}
+use Rattle.held.specs.Held.{is_row, lookup_rows}
 
 abbrev pub step_at : (file : List ℕ) (place : Place) → Step → Type 0
 step_at file place r = «Place::step» place file r
@@ -28,7 +28,7 @@ abbrev pub step_from : (file : List ℕ) (place : Place) → Step → Type 0
 step_from file place r = «Place::step» place file r
 
 abbrev pub row_is : (row : Row) (address : ℕ) → Bool → Type 0
-row_is row address r = r ≡ row_is address row
+row_is row address r = r ≡ is_row address row
 
 abbrev pub find_row : (rows : List Row) (n address : ℕ) → Pointer → Type 0
 find_row rows n address r = paper_pointer r ≡ lookup_rows rows n address

@@ -1,0 +1,22 @@
+-- `put_blocks`: a block a turn, up to the last row.
+use Prim.Native.Nat.{◌+◌, ◌-◌, ◌/◌, ◌≤◌}
+use mathlib.Core.Path.{◌≡◌, subst}
+use mathlib.Core.List.{List, ◌++◌}
+use native.Mathlib.Omega.{arith}
+use lib.ListN.{length}
+use borrow.Author.Rules.{rules}
+use Rattle.octets.proofs.Filling.{Storing, storing_starts, storing_ends, storing_ends-at, row_fits_lem, row-stored}
+use Rattle.block.specs.declared.Row.{Row}
+use Rattle.block.specs.Rows.{per_row, payload_of, rows_spelt}
+use Rattle.block.specs.Spelling.{block_header_out}
+use Rattle.writable.proofs.Judging.{row_known, rows_all}
+use Rattle.writer.specs.Helpers.{Inside}
+use Rattle.writer.specs.Writer.{blocks_out}
+use Rattle.writer.proofs.Files.{block-out-length, blocks_more, blocks-none, inside_more}
+use Rattle.writer.proofs.writer.put_blocks.Given as goal
+
+abbrev pub invariant-loop-row : goal.invariant-loop-row
+invariant-loop-row l = Storing l.initial.out l.at (blocks_out l.h l.source (rows_spelt l.table l.rows 0)) l.out l.next (blocks_out l.h l.source (rows_spelt l.table (l.rows - l.row) l.row)) × Inside l.source (rows_spelt l.table (l.rows - l.row) l.row) × (l.rows ≤ length l.table / per_row)
+
+abbrev pub decreases-loop-row : goal.decreases-loop-row
+decreases-loop-row l = l.rows - l.row
