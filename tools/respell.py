@@ -25,8 +25,8 @@ def of_a_function(path):
 def strip(line):
     return '' if line.lstrip().startswith('--') else line.split(' -- ')[0]
 
-# Beside `row_is`, what a public call promises, stands the rule that it goes by.
-GIVEN = {'rowIs': 'is_row'}
+# Beside `row_is`, what a public call promises, stands the rule that it goes by; and the kit has a function `nan_bits`.
+GIVEN = {'rowIs': 'is_row', 'nan-bits': 'nan_bits_lem'}
 
 SIG = re.compile(r'^(\s*)((?:(?:abbrev|unfoldable|pattern|pub|data|record)\s+)*)([^\s(){}.;,@"\[\]|]+)\s+(?:\{ℓ\}\s+)?(?:\([^:]*:[^=]*)?:\s')
 

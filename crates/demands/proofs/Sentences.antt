@@ -112,9 +112,9 @@ one-search =
     }
 
 -- a NaN's bits are those that were read
-nan_bits : (f : Format) (width : ℕ) (e : Endianness) (s : List ℕ) (n : ℕ) → accepts 1 (n ∷ []) ≡ value_of width (float f) e s → n ≡ spelled e (take width s)
+nan_bits_lem : (f : Format) (width : ℕ) (e : Endianness) (s : List ℕ) (n : ℕ) → accepts 1 (n ∷ []) ≡ value_of width (float f) e s → n ≡ spelled e (take width s)
 unfolding value_of
-nan_bits f width e s n h = go (ltb (length s) width) refl
+nan_bits_lem f width e s n h = go (ltb (length s) width) refl
   where
     by : (c : Bool) → nan_bits f (spelled e (take width s)) ≡ c → accepts 1 (n ∷ []) ≡ float f (spelled e (take width s)) → n ≡ spelled e (take width s)
     by true t g =
@@ -134,9 +134,9 @@ pub float-bits-read : FloatBits
 float-bits-read =
     record {
       of_32 = λ slice e b x h. float-bits binary32 4 e slice x b refl h;
-      nan_32 = λ slice e n h. nan_bits binary32 4 e slice n h;
+      nan_32 = λ slice e n h. nan_bits_lem binary32 4 e slice n h;
       of_64 = λ slice e b x h. float-bits binary64 8 e slice x b refl h;
-      nan_64 = λ slice e n h. nan_bits binary64 8 e slice n h;
+      nan_64 = λ slice e n h. nan_bits_lem binary64 8 e slice n h;
     }
 
 -- what the rule of `code` says of a kind, told
