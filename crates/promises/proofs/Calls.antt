@@ -6,8 +6,9 @@ use mathlib.Core.Path.{◌≡◌, refl, sym, ◌∙◌, ap}
 use seplogic.Ra.Ura.{Ura}
 use base.Logic.{SProp, sep, emp, fst∗}
 use prog.Model.{Model}
-use prog.Routine.{Routine}
+use prog.Wired.{Code, Wired}
 use types.Logic.{Logic}
+use mir.Syntax.{Callee, fn₀}
 use contract.Lifetimes.{Lfts}
 use contract.Monad.{fact}
 use contract.Running.{Running}
@@ -44,20 +45,35 @@ use Rattle.writer.specs.Writer.{write_of, paper_write, output_after}
 use Rattle.exports.specs.Exports.{refusal, order_of, field_out, header_of}
 use Rattle.demands.specs.declared.Two.{Two}
 use Rattle.octets.proofs as octets
+use Rattle.octets.specs.contracts as octets_contracts
 use Rattle.primitive.proofs as primitive
+use Rattle.primitive.specs.contracts as primitive_contracts
 use Rattle.field.proofs as field
+use Rattle.field.specs.contracts as field_contracts
 use Rattle.dna.proofs as dna
+use Rattle.dna.specs.contracts as dna_contracts
 use Rattle.header.proofs as header
+use Rattle.header.specs.contracts as header_contracts
 use Rattle.block.proofs as block
+use Rattle.block.specs.contracts as block_contracts
 use Rattle.blend.proofs as blend
+use Rattle.blend.specs.contracts as blend_contracts
 use Rattle.walker.proofs as walker
+use Rattle.walker.specs.contracts as walker_contracts
 use Rattle.runtime.proofs as runtime
+use Rattle.runtime.specs.contracts as runtime_contracts
 use Rattle.index.proofs as index
+use Rattle.index.specs.contracts as index_contracts
 use Rattle.writable.proofs as writable
+use Rattle.writable.specs.contracts as writable_contracts
 use Rattle.writer.proofs as writer
+use Rattle.writer.specs.contracts as writer_contracts
 use Rattle.held.proofs as held
+use Rattle.held.specs.contracts as held_contracts
 use Rattle.exports.proofs as exports
+use Rattle.exports.specs.contracts as exports_contracts
 use Rattle.demands.proofs as demands
+use Rattle.demands.specs.contracts as demands_contracts
 use Rattle.octets.proofs.Lossless.{at_one, whole-numbered, whole-moved, whole-counted, whole-begun}
 use Rattle.primitive.proofs.Lossless.{whole_u8, whole_u16, whole_u32, whole_u64, whole_i8, whole_i16, whole_i32, whole_i64, whole_f32, whole_f64}
 use Rattle.field.proofs.Lossless.{whole-field, whole-function, whole-width}
@@ -74,17 +90,17 @@ use Rattle.promises.specs.Calls.{PublicCall, Refused, Nonzero, public_call}
 use Rattle.promises.specs.Calls.PublicCall.{octets::PointerSize::bytes_num, «octets::Fault::refusal», «octets::Fault::place», octets::cursor::Width::bytes_num, octets::cursor::stands_at, «octets::cursor::before», «octets::cursor::Cursor::new», «octets::cursor::Cursor::number», «octets::cursor::Cursor::skip», «octets::cursor::Cursor::bytes», «octets::cursor::Cursor::part», «octets::cursor::Cursor::mark», «octets::cursor::Cursor::begins», «octets::cursor::Cursor::until», «octets::cursor::Cursor::string», primitive::primitive::parse_u8, primitive::primitive::parse_u16, primitive::primitive::parse_u32, primitive::primitive::parse_u64, primitive::primitive::parse_char, primitive::primitive::parse_i8, primitive::primitive::parse_i16, primitive::primitive::parse_i32, primitive::primitive::parse_i64, primitive::primitive::parse_f32, primitive::primitive::parse_f64, primitive::primitive::blender_name_char, primitive::primitive::blender_name_i8, primitive::primitive::blender_name_u8, primitive::primitive::blender_name_u16, primitive::primitive::blender_name_i16, primitive::primitive::blender_name_i32, primitive::primitive::blender_name_u32, primitive::primitive::blender_name_f32, primitive::primitive::blender_name_f64, primitive::primitive::blender_name_u64, primitive::primitive::blender_name_i64, field::field::fn_pointer, field::field::scan_field, field::field::parse_field, «field::field::width», dna::dna::dna_counts, «dna::dna::dna», header::FileFormat::header_len, header::FileFormat::block_header_len, «header::Header::new», «block::BlockHeader::new», block::Kind::of_code, «block::About::new», «block::Kind::about», header::blend::pointer_size, «header::blend::endianness», «header::blend::version», «header::blend::header», header::blend::refusal_of, block::blend::block_header_code, block::blend::block_header, block::blend::header_in, blend::blend::boundary_at, «blend::blend::blend», «walker::Place::start», «walker::Place::step», «runtime::runtime::view», runtime::runtime::view_part, «runtime::runtime::matches», runtime::runtime::get_ptr, «runtime::runtime::code», «index::index::build», «index::index::find», writable::writable::row_at, writable::writable::bytes_needed, «writer::writer::write», held::step_at, «held::over», «held::next», «held::moved», held::step_from, held::row_is, held::find_row, held::find_in, exports::blend_header, exports::blend_read, exports::blend_step, exports::blend_catalogue, exports::blend_field, exports::blend_width, exports::blend_view, exports::blend_lookup, exports::blend_index, exports::blend_find, exports::blend_write, exports::blend_u8, exports::blend_u16, exports::blend_u32, exports::blend_u64, «demands::read», demands::read_two}
 
 -- of a function whose contract has a second clause besides, the first is kept
-module _ (T : Ended) (code : Routine) (says : Says T)
+module _ (T : Ended) (name : Callee) (code : Code) (says : Says T)
     (also : (M : Type 1) (𝓤 : Ura M) (𝓛 : Logic 𝓤) (𝓜 : Model 𝓤 𝓛.H) (𝓡 : Running 𝓤 𝓛.H 𝓜) (κs : Lfts T.signature.lifetimes)
     → Args T.signature κs → Res T.signature κs → AtExit T κs → SProp 𝓤) where
   abbrev both : {M : Type 1} {𝓤 : Ura M} (𝓛 : Logic 𝓤) (𝓜 : Model 𝓤 𝓛.H) (𝓡 : Running 𝓤 𝓛.H 𝓜) → Clauses 𝓤 T
   both {M} {𝓤 = 𝓤} 𝓛 𝓜 𝓡 κs a = record { ghost = Unit {0}; requires = λ g. emp 𝓤; ensures = λ g r e. sep 𝓤 (fact 𝓤 (says κs a r e)) (also M 𝓤 𝓛 𝓜 𝓡 κs a r e) }
 
   first-kept : ((M : Type 1) (𝓤 : Ura M) (𝓛 : Logic 𝓤) (𝓜 : Model 𝓤 𝓛.H) (𝓡 : Running 𝓤 𝓛.H 𝓜)
-      → Meets 𝓛 T.signature (𝓡.run code) (closing 𝓛 T (both 𝓛 𝓜 𝓡))) → Keeps T code says
-  first-kept met M 𝓤 𝓛 𝓜 𝓡 =
-      weaken 𝓛 T (both 𝓛 𝓜 𝓡) (λ κs a g r e. fact 𝓤 (says κs a r e)) (λ κs a g r ws. fst∗ 𝓤 (fact 𝓤 (says κs a r (at_exit T κs a ws))) (also M 𝓤 𝓛 𝓜 𝓡 κs a r (at_exit T κs a ws))) (𝓡.run code) (routine_mono 𝓤 𝓛.H 𝓜 𝓡 code)
-      (met M 𝓤 𝓛 𝓜 𝓡)
+      → Wired 𝓡.env code → Meets 𝓛 T.signature (𝓡.run (𝓡.env name)) (closing 𝓛 T (both 𝓛 𝓜 𝓡))) → Keeps T name code says
+  first-kept met M 𝓤 𝓛 𝓜 𝓡 wired =
+      weaken 𝓛 T (both 𝓛 𝓜 𝓡) (λ κs a g r e. fact 𝓤 (says κs a r e)) (λ κs a g r ws. fst∗ 𝓤 (fact 𝓤 (says κs a r (at_exit T κs a ws))) (also M 𝓤 𝓛 𝓜 𝓡 κs a r (at_exit T κs a ws))) (𝓡.run (𝓡.env name)) (routine_mono 𝓤 𝓛.H 𝓜 𝓡 (𝓡.env name))
+      (met M 𝓤 𝓛 𝓜 𝓡 wired)
 
 -- a walker by what it holds, and what is held last of the tables that are lent
 one_walker : (r q : Walker) → r.file ≡ q.file → r.place ≡ q.place → r ≡ q
@@ -179,7 +195,7 @@ write-unwritten edition bytes order major minor t rows s out r out' x z =
     unrefused p _ out out' r.refusal (ap (λ (b : BlendWritten). b.refusal) x.0) z x.1
 
 pub every : (c : PublicCall) → Holds (public_call c)
-every octets::PointerSize::bytes_num = record { keeps = first-kept octets.PointerSize.bytes_num.ended octets.PointerSize.bytes_num.Symbol.routine (λ κs a r e. PointerSize::bytes_num a.0 r) (λ M 𝓤 𝓛 𝓜 𝓡 κs a r e. octets.PointerSize.bytes_num.ensures-constants 𝓛 κs 𝓜.mem 𝓡.run a.0 (record { entry = a.0; exit = e.0 }) r) (λ M. octets.PointerSize.bytes_num.Met.met); one = λ κs a r q ws vs x y. (x ∙ sym y, refl) }
+every octets::PointerSize::bytes_num = record { keeps = first-kept octets_contracts.PointerSize.bytes_num.ended (fn₀ "octets::PointerSize::bytes_num") _ (λ κs a r e. PointerSize::bytes_num a.0 r) (λ M 𝓤 𝓛 𝓜 𝓡 κs a r e. octets_contracts.PointerSize.bytes_num.ensures-constants 𝓛 κs 𝓜.mem 𝓡.returns a.0 (record { entry = a.0; exit = e.0 }) r) (λ M. octets.PointerSize.bytes_num.Met.met); one = λ κs a r q ws vs x y. (x ∙ sym y, refl) }
 every «octets::Fault::refusal» = record { keeps = λ M. octets.Fault.refusal.Met.met; one = λ κs a r q ws vs x y. (x ∙ sym y, refl) }
 every «octets::Fault::place» = record { keeps = λ M. octets.Fault.place.Met.met; one = λ κs a r q ws vs x y. (x ∙ sym y, refl) }
 every octets::cursor::Width::bytes_num = record { keeps = λ M. octets.cursor.Width.bytes_num.Met.met; one = λ κs a r q ws vs x y. (x ∙ sym y, refl) }
@@ -235,8 +251,8 @@ every «dna::dna::dna» =
       nothing = λ κs a r ws x f.
           (unwritten _ _ _ _ _ x.answer x.in_names f, unwritten _ _ _ _ _ x.answer x.in_types f, unwritten _ _ _ _ _ x.answer x.in_structs f, unwritten _ _ _ _ _ x.answer x.in_fields f);
     }
-every header::FileFormat::header_len = record { keeps = first-kept header.FileFormat.header_len.ended header.FileFormat.header_len.Symbol.routine (λ κs a r e. FileFormat::header_len a.0 r) (λ M 𝓤 𝓛 𝓜 𝓡 κs a r e. header.FileFormat.header_len.ensures-constants 𝓛 κs 𝓜.mem 𝓡.run a.0 (record { entry = a.0; exit = e.0 }) r) (λ M. header.FileFormat.header_len.Met.met); one = λ κs a r q ws vs x y. (x ∙ sym y, refl) }
-every header::FileFormat::block_header_len = record { keeps = first-kept header.FileFormat.block_header_len.ended header.FileFormat.block_header_len.Symbol.routine (λ κs a r e. FileFormat::block_header_len a.0 a.1.0 r) (λ M 𝓤 𝓛 𝓜 𝓡 κs a r e. header.FileFormat.block_header_len.ensures-constants 𝓛 κs 𝓜.mem 𝓡.run a.0 a.1.0 (record { entry = a.0; exit = e.0 }) (record { entry = a.1.0; exit = e.1.0 }) r) (λ M. header.FileFormat.block_header_len.Met.met); one = λ κs a r q ws vs x y. (x ∙ sym y, refl) }
+every header::FileFormat::header_len = record { keeps = first-kept header_contracts.FileFormat.header_len.ended (fn₀ "header::FileFormat::header_len") _ (λ κs a r e. FileFormat::header_len a.0 r) (λ M 𝓤 𝓛 𝓜 𝓡 κs a r e. header_contracts.FileFormat.header_len.ensures-constants 𝓛 κs 𝓜.mem 𝓡.returns a.0 (record { entry = a.0; exit = e.0 }) r) (λ M. header.FileFormat.header_len.Met.met); one = λ κs a r q ws vs x y. (x ∙ sym y, refl) }
+every header::FileFormat::block_header_len = record { keeps = first-kept header_contracts.FileFormat.block_header_len.ended (fn₀ "header::FileFormat::block_header_len") _ (λ κs a r e. FileFormat::block_header_len a.0 a.1.0 r) (λ M 𝓤 𝓛 𝓜 𝓡 κs a r e. header_contracts.FileFormat.block_header_len.ensures-constants 𝓛 κs 𝓜.mem 𝓡.returns a.0 a.1.0 (record { entry = a.0; exit = e.0 }) (record { entry = a.1.0; exit = e.1.0 }) r) (λ M. header.FileFormat.block_header_len.Met.met); one = λ κs a r q ws vs x y. (x ∙ sym y, refl) }
 every «header::Header::new» = record { keeps = λ M. header.Header.new.Met.met; one = λ κs a r q ws vs x y. (x ∙ sym y, refl) }
 every «block::BlockHeader::new» = record { keeps = λ M. block.BlockHeader.new.Met.met; one = λ κs a r q ws vs x y. (x ∙ sym y, refl) }
 every block::Kind::of_code = record { keeps = λ M. block.Kind.of_code.Met.met; one = λ κs a r q ws vs x y. (whole_kind r q (x ∙ sym y), refl) }

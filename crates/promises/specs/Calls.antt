@@ -24,21 +24,37 @@ use Rattle.blend.specs.Chain.{paper_blend}
 use Rattle.index.specs.Index.{paper_indexed}
 use Rattle.writer.specs.Writer.{paper_write}
 use Rattle.octets.proofs as octets
+use Rattle.octets.specs.contracts as octets_contracts
 use Rattle.primitive.proofs as primitive
+use Rattle.primitive.specs.contracts as primitive_contracts
 use Rattle.field.proofs as field
+use Rattle.field.specs.contracts as field_contracts
 use Rattle.dna.proofs as dna
+use Rattle.dna.specs.contracts as dna_contracts
 use Rattle.header.proofs as header
+use Rattle.header.specs.contracts as header_contracts
 use Rattle.block.proofs as block
+use Rattle.block.specs.contracts as block_contracts
 use Rattle.blend.proofs as blend
+use Rattle.blend.specs.contracts as blend_contracts
 use Rattle.walker.proofs as walker
+use Rattle.walker.specs.contracts as walker_contracts
 use Rattle.runtime.proofs as runtime
+use Rattle.runtime.specs.contracts as runtime_contracts
 use Rattle.index.proofs as index
+use Rattle.index.specs.contracts as index_contracts
 use Rattle.writable.proofs as writable
+use Rattle.writable.specs.contracts as writable_contracts
 use Rattle.writer.proofs as writer
+use Rattle.writer.specs.contracts as writer_contracts
 use Rattle.held.proofs as held
+use Rattle.held.specs.contracts as held_contracts
 use Rattle.exports.proofs as exports
+use Rattle.exports.specs.contracts as exports_contracts
 use Rattle.demands.proofs as demands
-use Rattle.promises.specs.Keeps.{Public}
+use Rattle.demands.specs.contracts as demands_contracts
+use mir.Syntax.{fn₀}
+use Rattle.promises.specs.Keeps.{Public, code_of}
 use Rattle.promises.specs.Keeps.Public.{call, shows, lends}
 
 pub data PublicCall : Type 0 where
@@ -148,124 +164,124 @@ abbrev pub Nonzero : ℕ → Type 0
 Nonzero n = n ≡ 0 → ⊥
 
 abbrev pub public_call : PublicCall → Public
-public_call octets::PointerSize::bytes_num = call octets.PointerSize.bytes_num.ended octets.PointerSize.bytes_num.Symbol.routine (λ κs (self, _) r e. PointerSize::bytes_num self r)
-public_call «octets::Fault::refusal» = call octets.Fault.refusal.ended octets.Fault.refusal.Symbol.routine (λ κs (self, _) r e. «Fault::refusal» self r)
-public_call «octets::Fault::place» = call octets.Fault.place.ended octets.Fault.place.Symbol.routine (λ κs (self, _) r e. «Fault::place» self r)
-public_call octets::cursor::Width::bytes_num = call octets.cursor.Width.bytes_num.ended octets.cursor.Width.bytes_num.Symbol.routine (λ κs (self, _) r e. cursor::Width::bytes_num self r)
-public_call octets::cursor::stands_at = call octets.cursor.stands_at.ended octets.cursor.stands_at.Symbol.routine (λ κs (s, (at, (m, _))) r e. cursor::stands_at s.now at m.now r)
-public_call «octets::cursor::before» = call octets.cursor.before.ended octets.cursor.before.Symbol.routine (λ κs (s, (c, _)) r e. «cursor::before» s.now c r)
-public_call «octets::cursor::Cursor::new» = call octets.cursor.Cursor.new.ended octets.cursor.Cursor.new.Symbol.routine (λ κs (at, _) r e. «cursor::Cursor::new» at r)
-public_call «octets::cursor::Cursor::number» = call octets.cursor.Cursor.number.ended octets.cursor.Cursor.number.Symbol.routine (λ κs (self, (s, (width, (order, _)))) r e. «cursor::Cursor::number» self s.now width order r)
-public_call «octets::cursor::Cursor::skip» = call octets.cursor.Cursor.skip.ended octets.cursor.Cursor.skip.Symbol.routine (λ κs (self, (s, (n, _))) r e. «cursor::Cursor::skip» self s.now n r)
-public_call «octets::cursor::Cursor::bytes» = call octets.cursor.Cursor.bytes.ended octets.cursor.Cursor.bytes.Symbol.routine (λ κs (self, (s, (n, _))) r e. «cursor::Cursor::bytes» self s.now n r)
-public_call «octets::cursor::Cursor::part» = shows octets.cursor.Cursor.part.ended octets.cursor.Cursor.part.Symbol.routine (λ κs r. r.now) (λ κs (self, (s, (n, _))) r e. «cursor::Cursor::part» self s.now n r.now)
-public_call «octets::cursor::Cursor::mark» = call octets.cursor.Cursor.mark.ended octets.cursor.Cursor.mark.Symbol.routine (λ κs (self, (s, (m, _))) r e. «cursor::Cursor::mark» self s.now m.now r)
-public_call «octets::cursor::Cursor::begins» = call octets.cursor.Cursor.begins.ended octets.cursor.Cursor.begins.Symbol.routine (λ κs (self, (s, (m, _))) r e. «cursor::Cursor::begins» self s.now m.now r)
-public_call «octets::cursor::Cursor::until» = call octets.cursor.Cursor.until.ended octets.cursor.Cursor.until.Symbol.routine (λ κs (self, (s, (c, _))) r e. «cursor::Cursor::until» self s.now c r)
-public_call «octets::cursor::Cursor::string» = call octets.cursor.Cursor.string.ended octets.cursor.Cursor.string.Symbol.routine (λ κs (self, (s, _)) r e. «cursor::Cursor::string» self s.now r)
-public_call primitive::primitive::parse_u8 = call primitive.primitive.parse_u8.ended primitive.primitive.parse_u8.Symbol.routine (λ κs (slice, (endianness, _)) r e. primitive::parse_u8 slice.now endianness r)
-public_call primitive::primitive::parse_u16 = call primitive.primitive.parse_u16.ended primitive.primitive.parse_u16.Symbol.routine (λ κs (slice, (endianness, _)) r e. primitive::parse_u16 slice.now endianness r)
-public_call primitive::primitive::parse_u32 = call primitive.primitive.parse_u32.ended primitive.primitive.parse_u32.Symbol.routine (λ κs (slice, (endianness, _)) r e. primitive::parse_u32 slice.now endianness r)
-public_call primitive::primitive::parse_u64 = call primitive.primitive.parse_u64.ended primitive.primitive.parse_u64.Symbol.routine (λ κs (slice, (endianness, _)) r e. primitive::parse_u64 slice.now endianness r)
-public_call primitive::primitive::parse_char = call primitive.primitive.parse_char.ended primitive.primitive.parse_char.Symbol.routine (λ κs (slice, (endianness, _)) r e. primitive::parse_char slice.now endianness r)
-public_call primitive::primitive::parse_i8 = call primitive.primitive.parse_i8.ended primitive.primitive.parse_i8.Symbol.routine (λ κs (slice, (endianness, _)) r e. primitive::parse_i8 slice.now endianness r)
-public_call primitive::primitive::parse_i16 = call primitive.primitive.parse_i16.ended primitive.primitive.parse_i16.Symbol.routine (λ κs (slice, (endianness, _)) r e. primitive::parse_i16 slice.now endianness r)
-public_call primitive::primitive::parse_i32 = call primitive.primitive.parse_i32.ended primitive.primitive.parse_i32.Symbol.routine (λ κs (slice, (endianness, _)) r e. primitive::parse_i32 slice.now endianness r)
-public_call primitive::primitive::parse_i64 = call primitive.primitive.parse_i64.ended primitive.primitive.parse_i64.Symbol.routine (λ κs (slice, (endianness, _)) r e. primitive::parse_i64 slice.now endianness r)
-public_call primitive::primitive::parse_f32 = call primitive.primitive.parse_f32.ended primitive.primitive.parse_f32.Symbol.routine (λ κs (slice, (endianness, _)) r e. primitive::parse_f32 slice.now endianness r)
-public_call primitive::primitive::parse_f64 = call primitive.primitive.parse_f64.ended primitive.primitive.parse_f64.Symbol.routine (λ κs (slice, (endianness, _)) r e. primitive::parse_f64 slice.now endianness r)
-public_call primitive::primitive::blender_name_char = call primitive.primitive.blender_name_char.ended primitive.primitive.blender_name_char.Symbol.routine (λ κs a r e. primitive::blender_name_char r)
-public_call primitive::primitive::blender_name_i8 = call primitive.primitive.blender_name_i8.ended primitive.primitive.blender_name_i8.Symbol.routine (λ κs a r e. primitive::blender_name_i8 r)
-public_call primitive::primitive::blender_name_u8 = call primitive.primitive.blender_name_u8.ended primitive.primitive.blender_name_u8.Symbol.routine (λ κs a r e. primitive::blender_name_u8 r)
-public_call primitive::primitive::blender_name_u16 = call primitive.primitive.blender_name_u16.ended primitive.primitive.blender_name_u16.Symbol.routine (λ κs a r e. primitive::blender_name_u16 r)
-public_call primitive::primitive::blender_name_i16 = call primitive.primitive.blender_name_i16.ended primitive.primitive.blender_name_i16.Symbol.routine (λ κs a r e. primitive::blender_name_i16 r)
-public_call primitive::primitive::blender_name_i32 = call primitive.primitive.blender_name_i32.ended primitive.primitive.blender_name_i32.Symbol.routine (λ κs a r e. primitive::blender_name_i32 r)
-public_call primitive::primitive::blender_name_u32 = call primitive.primitive.blender_name_u32.ended primitive.primitive.blender_name_u32.Symbol.routine (λ κs a r e. primitive::blender_name_u32 r)
-public_call primitive::primitive::blender_name_f32 = call primitive.primitive.blender_name_f32.ended primitive.primitive.blender_name_f32.Symbol.routine (λ κs a r e. primitive::blender_name_f32 r)
-public_call primitive::primitive::blender_name_f64 = call primitive.primitive.blender_name_f64.ended primitive.primitive.blender_name_f64.Symbol.routine (λ κs a r e. primitive::blender_name_f64 r)
-public_call primitive::primitive::blender_name_u64 = call primitive.primitive.blender_name_u64.ended primitive.primitive.blender_name_u64.Symbol.routine (λ κs a r e. primitive::blender_name_u64 r)
-public_call primitive::primitive::blender_name_i64 = call primitive.primitive.blender_name_i64.ended primitive.primitive.blender_name_i64.Symbol.routine (λ κs a r e. primitive::blender_name_i64 r)
-public_call field::field::fn_pointer = call field.field.fn_pointer.ended field.field.fn_pointer.Symbol.routine (λ κs (name, _) r e. field::fn_pointer ((λ x. x.now) name) r)
-public_call field::field::scan_field = call field.field.scan_field.ended field.field.scan_field.Symbol.routine (λ κs (name, _) r e. field::scan_field ((λ x. x.now) name) r)
+public_call octets::PointerSize::bytes_num = call octets_contracts.PointerSize.bytes_num.ended (fn₀ "octets::PointerSize::bytes_num") (code_of _ (λ M. octets.PointerSize.bytes_num.Met.met {M = M})) (λ κs (self, _) r e. PointerSize::bytes_num self r)
+public_call «octets::Fault::refusal» = call octets_contracts.Fault.refusal.ended (fn₀ "octets::Fault::refusal") (code_of _ (λ M. octets.Fault.refusal.Met.met {M = M})) (λ κs (self, _) r e. «Fault::refusal» self r)
+public_call «octets::Fault::place» = call octets_contracts.Fault.place.ended (fn₀ "octets::Fault::place") (code_of _ (λ M. octets.Fault.place.Met.met {M = M})) (λ κs (self, _) r e. «Fault::place» self r)
+public_call octets::cursor::Width::bytes_num = call octets_contracts.cursor.Width.bytes_num.ended (fn₀ "octets::cursor::Width::bytes_num") (code_of _ (λ M. octets.cursor.Width.bytes_num.Met.met {M = M})) (λ κs (self, _) r e. cursor::Width::bytes_num self r)
+public_call octets::cursor::stands_at = call octets_contracts.cursor.stands_at.ended (fn₀ "octets::cursor::stands_at") (code_of _ (λ M. octets.cursor.stands_at.Met.met {M = M})) (λ κs (s, (at, (m, _))) r e. cursor::stands_at s.now at m.now r)
+public_call «octets::cursor::before» = call octets_contracts.cursor.before.ended (fn₀ "octets::cursor::before") (code_of _ (λ M. octets.cursor.before.Met.met {M = M})) (λ κs (s, (c, _)) r e. «cursor::before» s.now c r)
+public_call «octets::cursor::Cursor::new» = call octets_contracts.cursor.Cursor.new.ended (fn₀ "octets::cursor::Cursor::new") (code_of _ (λ M. octets.cursor.Cursor.new.Met.met {M = M})) (λ κs (at, _) r e. «cursor::Cursor::new» at r)
+public_call «octets::cursor::Cursor::number» = call octets_contracts.cursor.Cursor.number.ended (fn₀ "octets::cursor::Cursor::number") (code_of _ (λ M. octets.cursor.Cursor.number.Met.met {M = M})) (λ κs (self, (s, (width, (order, _)))) r e. «cursor::Cursor::number» self s.now width order r)
+public_call «octets::cursor::Cursor::skip» = call octets_contracts.cursor.Cursor.skip.ended (fn₀ "octets::cursor::Cursor::skip") (code_of _ (λ M. octets.cursor.Cursor.skip.Met.met {M = M})) (λ κs (self, (s, (n, _))) r e. «cursor::Cursor::skip» self s.now n r)
+public_call «octets::cursor::Cursor::bytes» = call octets_contracts.cursor.Cursor.bytes.ended (fn₀ "octets::cursor::Cursor::bytes") (code_of _ (λ M. octets.cursor.Cursor.bytes.Met.met {M = M})) (λ κs (self, (s, (n, _))) r e. «cursor::Cursor::bytes» self s.now n r)
+public_call «octets::cursor::Cursor::part» = shows octets_contracts.cursor.Cursor.part.ended (fn₀ "octets::cursor::Cursor::part") (code_of _ (λ M. octets.cursor.Cursor.part.Met.met {M = M})) (λ κs r. r.now) (λ κs (self, (s, (n, _))) r e. «cursor::Cursor::part» self s.now n r.now)
+public_call «octets::cursor::Cursor::mark» = call octets_contracts.cursor.Cursor.mark.ended (fn₀ "octets::cursor::Cursor::mark") (code_of _ (λ M. octets.cursor.Cursor.mark.Met.met {M = M})) (λ κs (self, (s, (m, _))) r e. «cursor::Cursor::mark» self s.now m.now r)
+public_call «octets::cursor::Cursor::begins» = call octets_contracts.cursor.Cursor.begins.ended (fn₀ "octets::cursor::Cursor::begins") (code_of _ (λ M. octets.cursor.Cursor.begins.Met.met {M = M})) (λ κs (self, (s, (m, _))) r e. «cursor::Cursor::begins» self s.now m.now r)
+public_call «octets::cursor::Cursor::until» = call octets_contracts.cursor.Cursor.until.ended (fn₀ "octets::cursor::Cursor::until") (code_of _ (λ M. octets.cursor.Cursor.until.Met.met {M = M})) (λ κs (self, (s, (c, _))) r e. «cursor::Cursor::until» self s.now c r)
+public_call «octets::cursor::Cursor::string» = call octets_contracts.cursor.Cursor.string.ended (fn₀ "octets::cursor::Cursor::string") (code_of _ (λ M. octets.cursor.Cursor.string.Met.met {M = M})) (λ κs (self, (s, _)) r e. «cursor::Cursor::string» self s.now r)
+public_call primitive::primitive::parse_u8 = call primitive_contracts.primitive.parse_u8.ended (fn₀ "primitive::primitive::parse_u8") (code_of _ (λ M. primitive.primitive.parse_u8.Met.met {M = M})) (λ κs (slice, (endianness, _)) r e. primitive::parse_u8 slice.now endianness r)
+public_call primitive::primitive::parse_u16 = call primitive_contracts.primitive.parse_u16.ended (fn₀ "primitive::primitive::parse_u16") (code_of _ (λ M. primitive.primitive.parse_u16.Met.met {M = M})) (λ κs (slice, (endianness, _)) r e. primitive::parse_u16 slice.now endianness r)
+public_call primitive::primitive::parse_u32 = call primitive_contracts.primitive.parse_u32.ended (fn₀ "primitive::primitive::parse_u32") (code_of _ (λ M. primitive.primitive.parse_u32.Met.met {M = M})) (λ κs (slice, (endianness, _)) r e. primitive::parse_u32 slice.now endianness r)
+public_call primitive::primitive::parse_u64 = call primitive_contracts.primitive.parse_u64.ended (fn₀ "primitive::primitive::parse_u64") (code_of _ (λ M. primitive.primitive.parse_u64.Met.met {M = M})) (λ κs (slice, (endianness, _)) r e. primitive::parse_u64 slice.now endianness r)
+public_call primitive::primitive::parse_char = call primitive_contracts.primitive.parse_char.ended (fn₀ "primitive::primitive::parse_char") (code_of _ (λ M. primitive.primitive.parse_char.Met.met {M = M})) (λ κs (slice, (endianness, _)) r e. primitive::parse_char slice.now endianness r)
+public_call primitive::primitive::parse_i8 = call primitive_contracts.primitive.parse_i8.ended (fn₀ "primitive::primitive::parse_i8") (code_of _ (λ M. primitive.primitive.parse_i8.Met.met {M = M})) (λ κs (slice, (endianness, _)) r e. primitive::parse_i8 slice.now endianness r)
+public_call primitive::primitive::parse_i16 = call primitive_contracts.primitive.parse_i16.ended (fn₀ "primitive::primitive::parse_i16") (code_of _ (λ M. primitive.primitive.parse_i16.Met.met {M = M})) (λ κs (slice, (endianness, _)) r e. primitive::parse_i16 slice.now endianness r)
+public_call primitive::primitive::parse_i32 = call primitive_contracts.primitive.parse_i32.ended (fn₀ "primitive::primitive::parse_i32") (code_of _ (λ M. primitive.primitive.parse_i32.Met.met {M = M})) (λ κs (slice, (endianness, _)) r e. primitive::parse_i32 slice.now endianness r)
+public_call primitive::primitive::parse_i64 = call primitive_contracts.primitive.parse_i64.ended (fn₀ "primitive::primitive::parse_i64") (code_of _ (λ M. primitive.primitive.parse_i64.Met.met {M = M})) (λ κs (slice, (endianness, _)) r e. primitive::parse_i64 slice.now endianness r)
+public_call primitive::primitive::parse_f32 = call primitive_contracts.primitive.parse_f32.ended (fn₀ "primitive::primitive::parse_f32") (code_of _ (λ M. primitive.primitive.parse_f32.Met.met {M = M})) (λ κs (slice, (endianness, _)) r e. primitive::parse_f32 slice.now endianness r)
+public_call primitive::primitive::parse_f64 = call primitive_contracts.primitive.parse_f64.ended (fn₀ "primitive::primitive::parse_f64") (code_of _ (λ M. primitive.primitive.parse_f64.Met.met {M = M})) (λ κs (slice, (endianness, _)) r e. primitive::parse_f64 slice.now endianness r)
+public_call primitive::primitive::blender_name_char = call primitive_contracts.primitive.blender_name_char.ended (fn₀ "primitive::primitive::blender_name_char") (code_of _ (λ M. primitive.primitive.blender_name_char.Met.met {M = M})) (λ κs a r e. primitive::blender_name_char r)
+public_call primitive::primitive::blender_name_i8 = call primitive_contracts.primitive.blender_name_i8.ended (fn₀ "primitive::primitive::blender_name_i8") (code_of _ (λ M. primitive.primitive.blender_name_i8.Met.met {M = M})) (λ κs a r e. primitive::blender_name_i8 r)
+public_call primitive::primitive::blender_name_u8 = call primitive_contracts.primitive.blender_name_u8.ended (fn₀ "primitive::primitive::blender_name_u8") (code_of _ (λ M. primitive.primitive.blender_name_u8.Met.met {M = M})) (λ κs a r e. primitive::blender_name_u8 r)
+public_call primitive::primitive::blender_name_u16 = call primitive_contracts.primitive.blender_name_u16.ended (fn₀ "primitive::primitive::blender_name_u16") (code_of _ (λ M. primitive.primitive.blender_name_u16.Met.met {M = M})) (λ κs a r e. primitive::blender_name_u16 r)
+public_call primitive::primitive::blender_name_i16 = call primitive_contracts.primitive.blender_name_i16.ended (fn₀ "primitive::primitive::blender_name_i16") (code_of _ (λ M. primitive.primitive.blender_name_i16.Met.met {M = M})) (λ κs a r e. primitive::blender_name_i16 r)
+public_call primitive::primitive::blender_name_i32 = call primitive_contracts.primitive.blender_name_i32.ended (fn₀ "primitive::primitive::blender_name_i32") (code_of _ (λ M. primitive.primitive.blender_name_i32.Met.met {M = M})) (λ κs a r e. primitive::blender_name_i32 r)
+public_call primitive::primitive::blender_name_u32 = call primitive_contracts.primitive.blender_name_u32.ended (fn₀ "primitive::primitive::blender_name_u32") (code_of _ (λ M. primitive.primitive.blender_name_u32.Met.met {M = M})) (λ κs a r e. primitive::blender_name_u32 r)
+public_call primitive::primitive::blender_name_f32 = call primitive_contracts.primitive.blender_name_f32.ended (fn₀ "primitive::primitive::blender_name_f32") (code_of _ (λ M. primitive.primitive.blender_name_f32.Met.met {M = M})) (λ κs a r e. primitive::blender_name_f32 r)
+public_call primitive::primitive::blender_name_f64 = call primitive_contracts.primitive.blender_name_f64.ended (fn₀ "primitive::primitive::blender_name_f64") (code_of _ (λ M. primitive.primitive.blender_name_f64.Met.met {M = M})) (λ κs a r e. primitive::blender_name_f64 r)
+public_call primitive::primitive::blender_name_u64 = call primitive_contracts.primitive.blender_name_u64.ended (fn₀ "primitive::primitive::blender_name_u64") (code_of _ (λ M. primitive.primitive.blender_name_u64.Met.met {M = M})) (λ κs a r e. primitive::blender_name_u64 r)
+public_call primitive::primitive::blender_name_i64 = call primitive_contracts.primitive.blender_name_i64.ended (fn₀ "primitive::primitive::blender_name_i64") (code_of _ (λ M. primitive.primitive.blender_name_i64.Met.met {M = M})) (λ κs a r e. primitive::blender_name_i64 r)
+public_call field::field::fn_pointer = call field_contracts.field.fn_pointer.ended (fn₀ "field::field::fn_pointer") (code_of _ (λ M. field.field.fn_pointer.Met.met {M = M})) (λ κs (name, _) r e. field::fn_pointer name.now r)
+public_call field::field::scan_field = call field_contracts.field.scan_field.ended (fn₀ "field::field::scan_field") (code_of _ (λ M. field.field.scan_field.Met.met {M = M})) (λ κs (name, _) r e. field::scan_field name.now r)
 public_call field::field::parse_field =
-    lends field.field.parse_field.ended field.field.parse_field.Symbol.routine (λ κs (name, (dimensions, _)) r (_, (dimensions', _)). field::parse_field ((λ x. x.now) name) dimensions.now r dimensions'.now)
+    lends field_contracts.field.parse_field.ended (fn₀ "field::field::parse_field") (code_of _ (λ M. field.field.parse_field.Met.met {M = M})) (λ κs (name, (dimensions, _)) r (_, (dimensions', _)). field::parse_field name.now dimensions.now r dimensions'.now)
     (λ κs (_, (dimensions, _)) r (_, (dimensions', _)). Refused (paper_field r) → dimensions' ≡ dimensions.now)
-public_call «field::field::width» = call field.field.width.ended field.field.width.Symbol.routine (λ κs (d, (size, (pointer_size, _))) r e. «field::width» d size pointer_size r)
-public_call dna::dna::dna_counts = call dna.dna.dna_counts.ended dna.dna.dna_counts.Symbol.routine (λ κs (payload, (endianness, _)) r e. dna::dna_counts payload.now endianness r)
+public_call «field::field::width» = call field_contracts.field.width.ended (fn₀ "field::field::width") (code_of _ (λ M. field.field.width.Met.met {M = M})) (λ κs (d, (size, (pointer_size, _))) r e. «field::width» d size pointer_size r)
+public_call dna::dna::dna_counts = call dna_contracts.dna.dna_counts.ended (fn₀ "dna::dna::dna_counts") (code_of _ (λ M. dna.dna.dna_counts.Met.met {M = M})) (λ κs (payload, (endianness, _)) r e. dna::dna_counts payload.now endianness r)
 public_call «dna::dna::dna» =
-    lends dna.dna.dna.ended dna.dna.dna.Symbol.routine (λ κs (payload, (endianness, (names, (types, (structs, (fields, _)))))) r (_, (_, (names', (types', (structs', (fields', _)))))). «dna::dna» payload.now endianness names.now types.now structs.now fields.now r names'.now types'.now structs'.now fields'.now)
+    lends dna_contracts.dna.dna.ended (fn₀ "dna::dna::dna") (code_of _ (λ M. dna.dna.dna.Met.met {M = M})) (λ κs (payload, (endianness, (names, (types, (structs, (fields, _)))))) r (_, (_, (names', (types', (structs', (fields', _)))))). «dna::dna» payload.now endianness names.now types.now structs.now fields.now r names'.now types'.now structs'.now fields'.now)
     (λ κs (_, (_, (names, (types, (structs, (fields, _)))))) r (_, (_, (names', (types', (structs', (fields', _)))))). Refused (paper_tables r) → (names' ≡ names.now) × (types' ≡ types.now) × (structs' ≡ structs.now) × (fields' ≡ fields.now))
-public_call header::FileFormat::header_len = call header.FileFormat.header_len.ended header.FileFormat.header_len.Symbol.routine (λ κs (self, _) r e. FileFormat::header_len self r)
-public_call header::FileFormat::block_header_len = call header.FileFormat.block_header_len.ended header.FileFormat.block_header_len.Symbol.routine (λ κs (self, (pointer_size, _)) r e. FileFormat::block_header_len self pointer_size r)
-public_call «header::Header::new» = call header.Header.new.ended header.Header.new.Symbol.routine (λ κs (pointer_size, (endianness, (version, (format, _)))) r e. «Header::new» pointer_size endianness version format r)
-public_call «block::BlockHeader::new» = call block.BlockHeader.new.ended block.BlockHeader.new.Symbol.routine (λ κs (code, (size, (address, (index, (count, _))))) r e. «BlockHeader::new» code size address index count r)
-public_call block::Kind::of_code = call block.Kind.of_code.ended block.Kind.of_code.Symbol.routine (λ κs (code, _) r e. Kind::of_code code r)
-public_call «block::About::new» = call block.About.new.ended block.About.new.Symbol.routine (λ κs (takes, (found, (coded, (dna, _)))) r e. «About::new» takes found coded dna r)
-public_call «block::Kind::about» = call block.Kind.about.ended block.Kind.about.Symbol.routine (λ κs (self, _) r e. «Kind::about» self r)
-public_call header::blend::pointer_size = call header.blend.pointer_size.ended header.blend.pointer_size.Symbol.routine (λ κs (c, (s, _)) r e. blend::pointer_size c s.now r)
-public_call «header::blend::endianness» = call header.blend.endianness.ended header.blend.endianness.Symbol.routine (λ κs (c, (s, _)) r e. «blend::endianness» c s.now r)
-public_call «header::blend::version» = call header.blend.version.ended header.blend.version.Symbol.routine (λ κs (c, (s, _)) r e. «blend::version» c s.now r)
-public_call «header::blend::header» = call header.blend.header.ended header.blend.header.Symbol.routine (λ κs (file, _) r e. «blend::header» file.now r)
-public_call header::blend::refusal_of = call header.blend.refusal_of.ended header.blend.refusal_of.Symbol.routine (λ κs (answer, _) r e. blend::refusal_of answer r)
-public_call block::blend::block_header_code = call block.blend.block_header_code.ended block.blend.block_header_code.Symbol.routine (λ κs (c, (s, _)) r e. blend::block_header_code c s.now r)
-public_call block::blend::block_header = call block.blend.block_header.ended block.blend.block_header.Symbol.routine (λ κs (c, (s, (h, _))) r e. blend::block_header c s.now h r)
-public_call block::blend::header_in = call block.blend.header_in.ended block.blend.header_in.Symbol.routine (λ κs (part, (h, _)) r e. blend::header_in part.now h r)
-public_call blend::blend::boundary_at = call blend.blend.boundary_at.ended blend.blend.boundary_at.Symbol.routine (λ κs (s, (h, (at, _))) r e. blend::boundary_at s.now h at r)
+public_call header::FileFormat::header_len = call header_contracts.FileFormat.header_len.ended (fn₀ "header::FileFormat::header_len") (code_of _ (λ M. header.FileFormat.header_len.Met.met {M = M})) (λ κs (self, _) r e. FileFormat::header_len self r)
+public_call header::FileFormat::block_header_len = call header_contracts.FileFormat.block_header_len.ended (fn₀ "header::FileFormat::block_header_len") (code_of _ (λ M. header.FileFormat.block_header_len.Met.met {M = M})) (λ κs (self, (pointer_size, _)) r e. FileFormat::block_header_len self pointer_size r)
+public_call «header::Header::new» = call header_contracts.Header.new.ended (fn₀ "header::Header::new") (code_of _ (λ M. header.Header.new.Met.met {M = M})) (λ κs (pointer_size, (endianness, (version, (format, _)))) r e. «Header::new» pointer_size endianness version format r)
+public_call «block::BlockHeader::new» = call block_contracts.BlockHeader.new.ended (fn₀ "block::BlockHeader::new") (code_of _ (λ M. block.BlockHeader.new.Met.met {M = M})) (λ κs (code, (size, (address, (index, (count, _))))) r e. «BlockHeader::new» code size address index count r)
+public_call block::Kind::of_code = call block_contracts.Kind.of_code.ended (fn₀ "block::Kind::of_code") (code_of _ (λ M. block.Kind.of_code.Met.met {M = M})) (λ κs (code, _) r e. Kind::of_code code r)
+public_call «block::About::new» = call block_contracts.About.new.ended (fn₀ "block::About::new") (code_of _ (λ M. block.About.new.Met.met {M = M})) (λ κs (takes, (found, (coded, (dna, _)))) r e. «About::new» takes found coded dna r)
+public_call «block::Kind::about» = call block_contracts.Kind.about.ended (fn₀ "block::Kind::about") (code_of _ (λ M. block.Kind.about.Met.met {M = M})) (λ κs (self, _) r e. «Kind::about» self r)
+public_call header::blend::pointer_size = call header_contracts.blend.pointer_size.ended (fn₀ "header::blend::pointer_size") (code_of _ (λ M. header.blend.pointer_size.Met.met {M = M})) (λ κs (c, (s, _)) r e. blend::pointer_size c s.now r)
+public_call «header::blend::endianness» = call header_contracts.blend.endianness.ended (fn₀ "header::blend::endianness") (code_of _ (λ M. header.blend.endianness.Met.met {M = M})) (λ κs (c, (s, _)) r e. «blend::endianness» c s.now r)
+public_call «header::blend::version» = call header_contracts.blend.version.ended (fn₀ "header::blend::version") (code_of _ (λ M. header.blend.version.Met.met {M = M})) (λ κs (c, (s, _)) r e. «blend::version» c s.now r)
+public_call «header::blend::header» = call header_contracts.blend.header.ended (fn₀ "header::blend::header") (code_of _ (λ M. header.blend.header.Met.met {M = M})) (λ κs (file, _) r e. «blend::header» file.now r)
+public_call header::blend::refusal_of = call header_contracts.blend.refusal_of.ended (fn₀ "header::blend::refusal_of") (code_of _ (λ M. header.blend.refusal_of.Met.met {M = M})) (λ κs (answer, _) r e. blend::refusal_of answer r)
+public_call block::blend::block_header_code = call block_contracts.blend.block_header_code.ended (fn₀ "block::blend::block_header_code") (code_of _ (λ M. block.blend.block_header_code.Met.met {M = M})) (λ κs (c, (s, _)) r e. blend::block_header_code c s.now r)
+public_call block::blend::block_header = call block_contracts.blend.block_header.ended (fn₀ "block::blend::block_header") (code_of _ (λ M. block.blend.block_header.Met.met {M = M})) (λ κs (c, (s, (h, _))) r e. blend::block_header c s.now h r)
+public_call block::blend::header_in = call block_contracts.blend.header_in.ended (fn₀ "block::blend::header_in") (code_of _ (λ M. block.blend.header_in.Met.met {M = M})) (λ κs (part, (h, _)) r e. blend::header_in part.now h r)
+public_call blend::blend::boundary_at = call blend_contracts.blend.boundary_at.ended (fn₀ "blend::blend::boundary_at") (code_of _ (λ M. blend.blend.boundary_at.Met.met {M = M})) (λ κs (s, (h, (at, _))) r e. blend::boundary_at s.now h at r)
 public_call «blend::blend::blend» =
-    lends blend.blend.blend.ended blend.blend.blend.Symbol.routine (λ κs (file, (table, _)) r (_, (table', _)). «blend::blend» file.now table.now r table'.now)
+    lends blend_contracts.blend.blend.ended (fn₀ "blend::blend::blend") (code_of _ (λ M. blend.blend.blend.Met.met {M = M})) (λ κs (file, (table, _)) r (_, (table', _)). «blend::blend» file.now table.now r table'.now)
     (λ κs (_, (table, _)) r (_, (table', _)). Refused (paper_blend r) → table' ≡ table.now)
-public_call «walker::Place::start» = call walker.Place.start.ended walker.Place.start.Symbol.routine (λ κs a r e. «Place::start» r)
-public_call «walker::Place::step» = call walker.Place.step.ended walker.Place.step.Symbol.routine (λ κs (self, (file, _)) r e. «Place::step» self file.now r)
-public_call «runtime::runtime::view» = call runtime.runtime.view.ended runtime.runtime.view.Symbol.routine (λ κs (file, (table, (row, _))) r e. «runtime::view» file.now table.now row r)
-public_call runtime::runtime::view_part = shows runtime.runtime.view_part.ended runtime.runtime.view_part.Symbol.routine (λ κs r. r.now) (λ κs (file, (table, (row, _))) r e. runtime::view_part file.now table.now row r.now)
-public_call «runtime::runtime::matches» = call runtime.runtime.matches.ended runtime.runtime.matches.Symbol.routine (λ κs (wanted, (code, (address, _))) r e. «runtime::matches» wanted code address r)
-public_call runtime::runtime::get_ptr = call runtime.runtime.get_ptr.ended runtime.runtime.get_ptr.Symbol.routine (λ κs (table, (rows, (address, _))) r e. runtime::get_ptr table.now rows address r)
-public_call «runtime::runtime::code» = call runtime.runtime.code.ended runtime.runtime.code.Symbol.routine (λ κs (number, _) r e. «runtime::code» number r)
+public_call «walker::Place::start» = call walker_contracts.Place.start.ended (fn₀ "walker::Place::start") (code_of _ (λ M. walker.Place.start.Met.met {M = M})) (λ κs a r e. «Place::start» r)
+public_call «walker::Place::step» = call walker_contracts.Place.step.ended (fn₀ "walker::Place::step") (code_of _ (λ M. walker.Place.step.Met.met {M = M})) (λ κs (self, (file, _)) r e. «Place::step» self file.now r)
+public_call «runtime::runtime::view» = call runtime_contracts.runtime.view.ended (fn₀ "runtime::runtime::view") (code_of _ (λ M. runtime.runtime.view.Met.met {M = M})) (λ κs (file, (table, (row, _))) r e. «runtime::view» file.now table.now row r)
+public_call runtime::runtime::view_part = shows runtime_contracts.runtime.view_part.ended (fn₀ "runtime::runtime::view_part") (code_of _ (λ M. runtime.runtime.view_part.Met.met {M = M})) (λ κs r. r.now) (λ κs (file, (table, (row, _))) r e. runtime::view_part file.now table.now row r.now)
+public_call «runtime::runtime::matches» = call runtime_contracts.runtime.matches.ended (fn₀ "runtime::runtime::matches") (code_of _ (λ M. runtime.runtime.matches.Met.met {M = M})) (λ κs (wanted, (code, (address, _))) r e. «runtime::matches» wanted code address r)
+public_call runtime::runtime::get_ptr = call runtime_contracts.runtime.get_ptr.ended (fn₀ "runtime::runtime::get_ptr") (code_of _ (λ M. runtime.runtime.get_ptr.Met.met {M = M})) (λ κs (table, (rows, (address, _))) r e. runtime::get_ptr table.now rows address r)
+public_call «runtime::runtime::code» = call runtime_contracts.runtime.code.ended (fn₀ "runtime::runtime::code") (code_of _ (λ M. runtime.runtime.code.Met.met {M = M})) (λ κs (number, _) r e. «runtime::code» number r)
 public_call «index::index::build» =
-    lends index.index.build.ended index.index.build.Symbol.routine (λ κs (table, (rows, (buckets, (heads, (links, _))))) r (_, (_, (_, (heads', (links', _))))). «index::build» table.now rows buckets heads.now links.now r heads'.now links'.now)
+    lends index_contracts.index.build.ended (fn₀ "index::index::build") (code_of _ (λ M. index.index.build.Met.met {M = M})) (λ κs (table, (rows, (buckets, (heads, (links, _))))) r (_, (_, (_, (heads', (links', _))))). «index::build» table.now rows buckets heads.now links.now r heads'.now links'.now)
     (λ κs (_, (_, (_, (heads, (links, _))))) r (_, (_, (_, (heads', (links', _))))). Refused (paper_indexed r) → (heads' ≡ heads.now) × (links' ≡ links.now))
-public_call «index::index::find» = call index.index.find.ended index.index.find.Symbol.routine (λ κs (table, (rows, (buckets, (heads, (links, (address, _)))))) r e. «index::find» table.now rows buckets heads.now links.now address r)
-public_call writable::writable::row_at = call writable.writable.row_at.ended writable.writable.row_at.Symbol.routine (λ κs (table, (row, _)) r e. writable::row_at table.now row r)
-public_call writable::writable::bytes_needed = call writable.writable.bytes_needed.ended writable.writable.bytes_needed.Symbol.routine (λ κs (h, (table, (rows, (source, _)))) r e. writable::bytes_needed h table.now rows source.now r)
+public_call «index::index::find» = call index_contracts.index.find.ended (fn₀ "index::index::find") (code_of _ (λ M. index.index.find.Met.met {M = M})) (λ κs (table, (rows, (buckets, (heads, (links, (address, _)))))) r e. «index::find» table.now rows buckets heads.now links.now address r)
+public_call writable::writable::row_at = call writable_contracts.writable.row_at.ended (fn₀ "writable::writable::row_at") (code_of _ (λ M. writable.writable.row_at.Met.met {M = M})) (λ κs (table, (row, _)) r e. writable::row_at table.now row r)
+public_call writable::writable::bytes_needed = call writable_contracts.writable.bytes_needed.ended (fn₀ "writable::writable::bytes_needed") (code_of _ (λ M. writable.writable.bytes_needed.Met.met {M = M})) (λ κs (h, (table, (rows, (source, _)))) r e. writable::bytes_needed h table.now rows source.now r)
 public_call «writer::writer::write» =
-    lends writer.writer.write.ended writer.writer.write.Symbol.routine (λ κs (h, (table, (rows, (source, (out, _))))) r (_, (_, (_, (_, (out', _))))). «writer::write» h table.now rows source.now out.now r out'.now)
+    lends writer_contracts.writer.write.ended (fn₀ "writer::writer::write") (code_of _ (λ M. writer.writer.write.Met.met {M = M})) (λ κs (h, (table, (rows, (source, (out, _))))) r (_, (_, (_, (_, (out', _))))). «writer::write» h table.now rows source.now out.now r out'.now)
     (λ κs (_, (_, (_, (_, (out, _))))) r (_, (_, (_, (_, (out', _))))). Refused (paper_write r) → out' ≡ out.now)
-public_call held::step_at = call held.step_at.ended held.step_at.Symbol.routine (λ κs (file, (place, _)) r e. step_at file.now place r)
-public_call «held::over» = call held.over.ended held.over.Symbol.routine (λ κs (file, _) r e. «over» file r)
-public_call «held::next» = call held.next.ended held.next.Symbol.routine (λ κs (w, _) r e. «next» w r)
-public_call «held::moved» = call held.moved.ended held.moved.Symbol.routine (λ κs (w, (place, _)) r e. «moved» w place r)
-public_call held::step_from = call held.step_from.ended held.step_from.Symbol.routine (λ κs (file, (place, _)) r e. step_from file.now place r)
-public_call held::row_is = call held.row_is.ended held.row_is.Symbol.routine (λ κs (row, (address, _)) r e. row_is row address r)
-public_call held::find_row = call held.find_row.ended held.find_row.Symbol.routine (λ κs (rows, (n, (address, _))) r e. find_row rows.now n address r)
-public_call held::find_in = call held.find_in.ended held.find_in.Symbol.routine (λ κs (rows, (n, (address, _))) r e. find_in rows n address r)
-public_call exports::blend_header = call exports.blend_header.ended exports.blend_header.Symbol.routine (λ κs (file, _) r e. blend_header file.now r)
+public_call held::step_at = call held_contracts.step_at.ended (fn₀ "held::step_at") (code_of _ (λ M. held.step_at.Met.met {M = M})) (λ κs (file, (place, _)) r e. step_at file.now place r)
+public_call «held::over» = call held_contracts.over.ended (fn₀ "held::over") (code_of _ (λ M. held.over.Met.met {M = M})) (λ κs (file, _) r e. «over» file r)
+public_call «held::next» = call held_contracts.next.ended (fn₀ "held::next") (code_of _ (λ M. held.next.Met.met {M = M})) (λ κs (w, _) r e. «next» w r)
+public_call «held::moved» = call held_contracts.moved.ended (fn₀ "held::moved") (code_of _ (λ M. held.moved.Met.met {M = M})) (λ κs (w, (place, _)) r e. «moved» w place r)
+public_call held::step_from = call held_contracts.step_from.ended (fn₀ "held::step_from") (code_of _ (λ M. held.step_from.Met.met {M = M})) (λ κs (file, (place, _)) r e. step_from file.now place r)
+public_call held::row_is = call held_contracts.row_is.ended (fn₀ "held::row_is") (code_of _ (λ M. held.row_is.Met.met {M = M})) (λ κs (row, (address, _)) r e. row_is row address r)
+public_call held::find_row = call held_contracts.find_row.ended (fn₀ "held::find_row") (code_of _ (λ M. held.find_row.Met.met {M = M})) (λ κs (rows, (n, (address, _))) r e. find_row rows.now n address r)
+public_call held::find_in = call held_contracts.find_in.ended (fn₀ "held::find_in") (code_of _ (λ M. held.find_in.Met.met {M = M})) (λ κs (rows, (n, (address, _))) r e. find_in rows n address r)
+public_call exports::blend_header = call exports_contracts.blend_header.ended (fn₀ "exports::blend_header") (code_of _ (λ M. exports.blend_header.Met.met {M = M})) (λ κs (file, _) r e. blend_header file.now r)
 public_call exports::blend_read =
-    lends exports.blend_read.ended exports.blend_read.Symbol.routine (λ κs (file, (table, _)) r (_, (table', _)). blend_read file.now table.now r table'.now)
+    lends exports_contracts.blend_read.ended (fn₀ "exports::blend_read") (code_of _ (λ M. exports.blend_read.Met.met {M = M})) (λ κs (file, (table, _)) r (_, (table', _)). blend_read file.now table.now r table'.now)
     (λ κs (_, (table, _)) r (_, (table', _)). Nonzero r.refusal → table' ≡ table.now)
-public_call exports::blend_step = call exports.blend_step.ended exports.blend_step.Symbol.routine (λ κs (file, (at, (dna, _))) r e. blend_step file.now at dna r)
+public_call exports::blend_step = call exports_contracts.blend_step.ended (fn₀ "exports::blend_step") (code_of _ (λ M. exports.blend_step.Met.met {M = M})) (λ κs (file, (at, (dna, _))) r e. blend_step file.now at dna r)
 public_call exports::blend_catalogue =
-    lends exports.blend_catalogue.ended exports.blend_catalogue.Symbol.routine (λ κs (payload, (order, (names, (types, (structs, (fields, _)))))) r (_, (_, (names', (types', (structs', (fields', _)))))). blend_catalogue payload.now order names.now types.now structs.now fields.now r names'.now types'.now structs'.now fields'.now)
+    lends exports_contracts.blend_catalogue.ended (fn₀ "exports::blend_catalogue") (code_of _ (λ M. exports.blend_catalogue.Met.met {M = M})) (λ κs (payload, (order, (names, (types, (structs, (fields, _)))))) r (_, (_, (names', (types', (structs', (fields', _)))))). blend_catalogue payload.now order names.now types.now structs.now fields.now r names'.now types'.now structs'.now fields'.now)
     (λ κs (_, (_, (names, (types, (structs, (fields, _)))))) r (_, (_, (names', (types', (structs', (fields', _)))))). Nonzero r.refusal → (names' ≡ names.now) × (types' ≡ types.now) × (structs' ≡ structs.now) × (fields' ≡ fields.now))
 public_call exports::blend_field =
-    lends exports.blend_field.ended exports.blend_field.Symbol.routine (λ κs (name, (dimensions, _)) r (_, (dimensions', _)). blend_field ((λ x. x.now) name) dimensions.now r dimensions'.now)
+    lends exports_contracts.blend_field.ended (fn₀ "exports::blend_field") (code_of _ (λ M. exports.blend_field.Met.met {M = M})) (λ κs (name, (dimensions, _)) r (_, (dimensions', _)). blend_field name.now dimensions.now r dimensions'.now)
     (λ κs (_, (dimensions, _)) r (_, (dimensions', _)). Nonzero r.refusal → dimensions' ≡ dimensions.now)
-public_call exports::blend_width = call exports.blend_width.ended exports.blend_width.Symbol.routine (λ κs (field, (size, (pointer_bytes, _))) r e. blend_width field size pointer_bytes r)
-public_call exports::blend_view = call exports.blend_view.ended exports.blend_view.Symbol.routine (λ κs (file, (table, (row, _))) r e. blend_view file.now table.now row r)
-public_call exports::blend_lookup = call exports.blend_lookup.ended exports.blend_lookup.Symbol.routine (λ κs (table, (rows, (address, _))) r e. blend_lookup table.now rows address r)
+public_call exports::blend_width = call exports_contracts.blend_width.ended (fn₀ "exports::blend_width") (code_of _ (λ M. exports.blend_width.Met.met {M = M})) (λ κs (field, (size, (pointer_bytes, _))) r e. blend_width field size pointer_bytes r)
+public_call exports::blend_view = call exports_contracts.blend_view.ended (fn₀ "exports::blend_view") (code_of _ (λ M. exports.blend_view.Met.met {M = M})) (λ κs (file, (table, (row, _))) r e. blend_view file.now table.now row r)
+public_call exports::blend_lookup = call exports_contracts.blend_lookup.ended (fn₀ "exports::blend_lookup") (code_of _ (λ M. exports.blend_lookup.Met.met {M = M})) (λ κs (table, (rows, (address, _))) r e. blend_lookup table.now rows address r)
 public_call exports::blend_index =
-    lends exports.blend_index.ended exports.blend_index.Symbol.routine (λ κs (table, (rows, (buckets, (heads, (links, _))))) r (_, (_, (_, (heads', (links', _))))). blend_index table.now rows buckets heads.now links.now r heads'.now links'.now)
+    lends exports_contracts.blend_index.ended (fn₀ "exports::blend_index") (code_of _ (λ M. exports.blend_index.Met.met {M = M})) (λ κs (table, (rows, (buckets, (heads, (links, _))))) r (_, (_, (_, (heads', (links', _))))). blend_index table.now rows buckets heads.now links.now r heads'.now links'.now)
     (λ κs (_, (_, (_, (heads, (links, _))))) r (_, (_, (_, (heads', (links', _))))). Nonzero r.refusal → (heads' ≡ heads.now) × (links' ≡ links.now))
-public_call exports::blend_find = call exports.blend_find.ended exports.blend_find.Symbol.routine (λ κs (table, (rows, (buckets, (heads, (links, (address, _)))))) r e. blend_find table.now rows buckets heads.now links.now address r)
+public_call exports::blend_find = call exports_contracts.blend_find.ended (fn₀ "exports::blend_find") (code_of _ (λ M. exports.blend_find.Met.met {M = M})) (λ κs (table, (rows, (buckets, (heads, (links, (address, _)))))) r e. blend_find table.now rows buckets heads.now links.now address r)
 public_call exports::blend_write =
-    lends exports.blend_write.ended exports.blend_write.Symbol.routine (λ κs (edition, (pointer_bytes, (order, (major, (minor, (table, (rows, (source, (out, _))))))))) r (_, (_, (_, (_, (_, (_, (_, (_, (out', _))))))))). blend_write edition pointer_bytes order major minor table.now rows source.now out.now r out'.now)
+    lends exports_contracts.blend_write.ended (fn₀ "exports::blend_write") (code_of _ (λ M. exports.blend_write.Met.met {M = M})) (λ κs (edition, (pointer_bytes, (order, (major, (minor, (table, (rows, (source, (out, _))))))))) r (_, (_, (_, (_, (_, (_, (_, (_, (out', _))))))))). blend_write edition pointer_bytes order major minor table.now rows source.now out.now r out'.now)
     (λ κs (_, (_, (_, (_, (_, (_, (_, (_, (out, _))))))))) r (_, (_, (_, (_, (_, (_, (_, (_, (out', _))))))))). Nonzero r.refusal → out' ≡ out.now)
-public_call exports::blend_u8 = call exports.blend_u8.ended exports.blend_u8.Symbol.routine (λ κs (slice, (order, _)) r e. blend_u8 slice.now order r)
-public_call exports::blend_u16 = call exports.blend_u16.ended exports.blend_u16.Symbol.routine (λ κs (slice, (order, _)) r e. blend_u16 slice.now order r)
-public_call exports::blend_u32 = call exports.blend_u32.ended exports.blend_u32.Symbol.routine (λ κs (slice, (order, _)) r e. blend_u32 slice.now order r)
-public_call exports::blend_u64 = call exports.blend_u64.ended exports.blend_u64.Symbol.routine (λ κs (slice, (order, _)) r e. blend_u64 slice.now order r)
+public_call exports::blend_u8 = call exports_contracts.blend_u8.ended (fn₀ "exports::blend_u8") (code_of _ (λ M. exports.blend_u8.Met.met {M = M})) (λ κs (slice, (order, _)) r e. blend_u8 slice.now order r)
+public_call exports::blend_u16 = call exports_contracts.blend_u16.ended (fn₀ "exports::blend_u16") (code_of _ (λ M. exports.blend_u16.Met.met {M = M})) (λ κs (slice, (order, _)) r e. blend_u16 slice.now order r)
+public_call exports::blend_u32 = call exports_contracts.blend_u32.ended (fn₀ "exports::blend_u32") (code_of _ (λ M. exports.blend_u32.Met.met {M = M})) (λ κs (slice, (order, _)) r e. blend_u32 slice.now order r)
+public_call exports::blend_u64 = call exports_contracts.blend_u64.ended (fn₀ "exports::blend_u64") (code_of _ (λ M. exports.blend_u64.Met.met {M = M})) (λ κs (slice, (order, _)) r e. blend_u64 slice.now order r)
 public_call «demands::read» =
-    lends demands.read.ended demands.read.Symbol.routine (λ κs (file, (table, _)) r (_, (table', _)). «read» file.now table.now r table'.now)
+    lends demands_contracts.read.ended (fn₀ "demands::read") (code_of _ (λ M. demands.read.Met.met {M = M})) (λ κs (file, (table, _)) r (_, (table', _)). «read» file.now table.now r table'.now)
     (λ κs (_, (table, _)) r (_, (table', _)). Refused (paper_blend r) → table' ≡ table.now)
 public_call demands::read_two =
-    lends demands.read_two.ended demands.read_two.Symbol.routine (λ κs (one, (first, (other, (second, _)))) r (_, (first', (_, (second', _)))). read_two one.now first.now other.now second.now r first'.now second'.now)
+    lends demands_contracts.read_two.ended (fn₀ "demands::read_two") (code_of _ (λ M. demands.read_two.Met.met {M = M})) (λ κs (one, (first, (other, (second, _)))) r (_, (first', (_, (second', _)))). read_two one.now first.now other.now second.now r first'.now second'.now)
     (λ κs (_, (first, (_, (second, _)))) r (_, (first', (_, (second', _)))). (Refused (paper_blend r.one) → first' ≡ first.now) × (Refused (paper_blend r.other) → second' ≡ second.now))

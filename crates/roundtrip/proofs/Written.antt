@@ -20,6 +20,7 @@ use Rattle.octets.proofs.Spelling.{bytes_of-spell, spelled-bytes_of}
 use Rattle.octets.proofs.Tests.{failed}
 use Rattle.dna.specs.declared.dna.DnaCounts.{DnaCounts}
 use Rattle.dna.specs.Catalogue.{catalogue, counts_only}
+use Rattle.header.specs.Layout.{block_header_length}
 use Rattle.header.specs.declared.FileFormat.{FileFormat}
 use Rattle.header.specs.declared.FileFormat.TheVariants.{Legacy}
 use Rattle.header.specs.declared.Header.{Header}
@@ -94,7 +95,7 @@ module _ (o : Outcome File) (f : File) (first : ℕ) (e : o ≡ read f first) (n
 placed-many : (h : Header) (at : ℕ) (rs : List Row) → length (placed h at rs) ≡ length rs
 unfolding placed
 placed-many h at [] = refl
-placed-many h at (r ∷ rs) = ap suc (placed-many h _ rs)
+placed-many h at (r ∷ rs) = ap suc (placed-many h (at + (block_header_length h.format h.pointer_size + r.len)) rs)
 
 same_at : (h : Header) (s z ys : List ℕ) (d : DnaCounts) (rs qs : List Row) (i : ℕ) → SameParts h s z ys d rs qs → i < length rs → length qs ≡ length rs
     → payload_of z (get_or qs i none) ≡ payload_of s (get_or rs i none)
