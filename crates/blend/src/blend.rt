@@ -11,11 +11,11 @@ ghost use Rattle.blend.specs.Calls as calls;
 
 use block::blend::{BlockHeaderRead, block_header, header_in};
 use block::{BlockHeader, Kind, Row, Takes};
-use octets::Fault;
-use octets::cursor::{Cursor, Moved, stands_at};
 use dna::dna::{DnaCounted, DnaCounts, dna_counts};
 use header::Header;
 use header::blend::{HeaderAnswer, header, refusal_of};
+use octets::Fault;
+use octets::cursor::{Cursor, Moved, stands_at};
 
 // Whether a block is taken, or the number of its refusal.
 #[derive(Clone, Copy)]

@@ -13,9 +13,9 @@ ghost use Rattle.header.specs.Layout.{block_header_length};
 ghost use Rattle.block.specs.Calls as calls;
 
 use crate::BlockHeader;
+use header::{FileFormat, Header};
 use octets::cursor::{Cursor, Moved, Numbered, Width};
 use octets::{Endianness, Fault, PointerSize};
-use header::{FileFormat, Header};
 use primitive::primitive::{ValueU32, ValueU64, parse_u32, parse_u64};
 
 /// A block's code as its number, the first byte most significant.

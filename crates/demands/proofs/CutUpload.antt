@@ -6,12 +6,10 @@ use mathlib.Core.Path.{◌≡◌, refl, sym, ◌∙◌, ap, subst}
 use native.Mathlib.Omega.{arith}
 use borrow.Author.Tests.{leb-true, leb-false}
 use lib.Dec.{leb}
-use lib.ListN.{length, take, drop}
+use lib.ListN.{length, take}
 use lib.Seq.{length-take-le, take-take, get_or-take}
 use Rattle.octets.specs.declared.Endianness.{Endianness}
-use Rattle.octets.specs.declared.Fault.TheVariants.{Cut, Refusal}
 use Rattle.octets.specs.Paper.{Paper}
-use Rattle.octets.specs.Paper.Paper.{refuses}
 use Rattle.octets.specs.Reader.{Outcome, run}
 use Rattle.octets.specs.Reader.Outcome.{read, fault}
 use Rattle.octets.specs.Refusals.{told}
@@ -25,24 +23,22 @@ use Rattle.header.proofs.Cutting.{magic-cut, header-cut}
 use Rattle.header.proofs.Lossless.{header_known}
 use Rattle.blend.proofs.Answers.{valued_read}
 use Rattle.octets.proofs.Extent.{ends-within}
-use Rattle.dna.specs.declared.dna.DnaCounted.{DnaCounted}
 use Rattle.dna.specs.declared.dna.DnaCounts.{DnaCounts}
-use Rattle.dna.specs.Catalogue.{Dna, Rooms, catalogue, rooms, count_numbers, counts_only, read_as as tablesAs}
+use Rattle.dna.specs.Catalogue.{Dna, catalogue, rooms, count_numbers, counts_only, read_as as tablesAs}
 use Rattle.dna.proofs.Cutting.{catalogue-cut}
 use Rattle.block.specs.declared.Row.{Row}
-use Rattle.block.specs.Rows.{per_row, payload_of}
+use Rattle.block.specs.Rows.{per_row}
 use Rattle.blend.specs.declared.blend.Boundary.{Boundary}
 use Rattle.blend.specs.declared.blend.Last.{Last}
 use Rattle.blend.specs.Blocks.{boundary_of}
-use Rattle.blend.specs.Chain.{Chain, File, link, chain, chain_from, on_header, file_by, read_as, answer_for}
-use Rattle.blend.proofs.Chains.{block_lies, block_moves, code-stops, mark-room}
+use Rattle.blend.specs.Chain.{File, link, chain, chain_from, on_header, file_by, read_as, answer_for}
+use Rattle.blend.proofs.Chains.{block_lies, code-stops}
 use Rattle.blend.proofs.Cutting.{block-cut}
 use Rattle.blend.proofs.Links.{Linked, mark-ends, linked-ends}
-use Rattle.exports.specs.Exports.{read_out}
 use Rattle.demands.specs.Malformed.{CutAt, CutTold, CutUpload}
 use Rattle.demands.proofs.Accepted.{accepted}
 use Rattle.demands.proofs.Exported.{read_by}
-use Rattle.demands.proofs.Files.{Filed, filed, first-inside, file-linked}
+use Rattle.demands.proofs.Files.{Filed, filed, file-linked}
 use Rattle.demands.proofs.HeaderTrees.{header_tree}
 use Rattle.demands.proofs.Kept.{block-kept}
 

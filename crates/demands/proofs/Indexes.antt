@@ -1,16 +1,15 @@
 -- An index over rows with the same addresses is the same; and the search through one that was built answers as the plain one.
 use Prim.Native.Nat.{ℕ, ◌+◌, ◌/◌, ◌≤◌, ◌<◌}
 use mathlib.Core.List.{List}
-use mathlib.Core.Path.{◌≡◌, refl, sym, ◌∙◌, ap}
+use mathlib.Core.Path.{◌≡◌, sym, ◌∙◌, ap}
 use native.Mathlib.Omega.{arith}
 use lib.ListN.{length, get_or, take, length-take}
 use Rattle.octets.specs.Paper.{Paper}
-use Rattle.octets.specs.Tables.{over, written}
+use Rattle.octets.specs.Tables.{written}
 use Rattle.octets.proofs.Written.{wrote, written_over}
 use Rattle.block.specs.declared.Row.{Row}
-use Rattle.block.specs.Rows.{Column, per_row, cell, none, row_spelt}
+use Rattle.block.specs.Rows.{Column, per_row, cell, none}
 use Rattle.block.proofs.Tables.{row_at}
-use Rattle.index.specs.declared.index.Indexed.{Indexed}
 use Rattle.index.specs.Index.{heads_of, links_of, where_there, built, indexed_as}
 use Rattle.index.proofs.Answers.{left}
 use Rattle.index.proofs.Firsts.{numbers-many}

@@ -21,7 +21,7 @@ use Rattle.blend.specs.Chain.{file_by, read_as, paper_blend}
 use Rattle.blend.proofs.Lossless.{whole-blend, paper_boundary_lem}
 use Rattle.walker.specs.declared.Place.{Place}
 use Rattle.walker.specs.declared.Step.{Step}
-use Rattle.walker.specs.Walker.{Stepped, step_by, start, Stop, stopped, Walk, paper_step}
+use Rattle.walker.specs.Walker.{Stepped, step_by, start, Stop, Walk, paper_step}
 use Rattle.walker.specs.Walker.Stop.{ended, refused}
 use Rattle.writable.proofs.Lossless.{whole_needed}
 use Rattle.writer.proofs.Lossless.{whole-write}

@@ -9,7 +9,7 @@ use lib.Dec.{eqb}
 use lib.ListN.{length, get_or, take, drop, length-append, length-drop}
 use Rattle.octets.specs.declared.Endianness.{Endianness}
 use Rattle.octets.specs.Paper.{Paper}
-use Rattle.octets.specs.Paper.Paper.{accepts, integer, real, refuses}
+use Rattle.octets.specs.Paper.Paper.{accepts}
 use Rattle.octets.specs.Reader.{Reader, Outcome, run, room}
 use Rattle.octets.specs.Reader.Outcome.{read}
 use Rattle.octets.specs.Tables.{over, written}
@@ -27,7 +27,7 @@ use Rattle.block.specs.Kinds.{code_number, kind_of}
 use Rattle.blend.specs.Blocks.{is_dna}
 use Rattle.block.specs.Rows.{payload_of, Column, per_row, row_table, cell, none, row_spelt}
 use Rattle.blend.specs.Calls.{Answers}
-use Rattle.blend.specs.Chain.{Chain, File, chain, chain_from, on_header, file_by, read_as, table_after}
+use Rattle.blend.specs.Chain.{Chain, File, chain_from, on_header, file_by, read_as, table_after}
 use Rattle.header.specs.Header.{HeaderBytes, header_bytes, valued}
 use Rattle.runtime.specs.Views.{is_there, view_as, part_as}
 use Rattle.block.proofs.Tables.{table-length, row_at}

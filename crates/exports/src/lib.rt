@@ -18,12 +18,12 @@ ghost use Rattle.exports.specs.Calls as calls;
 
 use blend::blend::{BlendAnswer, RawBlend, blend};
 use block::Row;
-use octets::{Endianness, Fault, PointerSize};
 use dna::dna::{DnaTables, dna};
 use field::field::{Declarator, FieldInfo, FieldWidth, ParsedField, Span, parse_field, width};
 use header::blend::{HeaderAnswer, header};
 use header::{FileFormat, Header, Version};
 use index::index::{IndexPointer, Indexed, build, find};
+use octets::{Endianness, Fault, PointerSize};
 use primitive::primitive::{
     ValueU8, ValueU16, ValueU32, ValueU64, parse_u8, parse_u16, parse_u32, parse_u64,
 };

@@ -1,11 +1,11 @@
 -- What `fn_pointer` answers is what it was, with 16 and 17 told as 2, and is no 2.
 use Prim.Native.Char.{code}
-use Prim.Native.Nat.{ℕ, ◌+◌, ◌-◌, ◌≤◌, ◌<◌}
-use mathlib.Core.Bool.{Bool, true, false, ◌&&◌}
-use mathlib.Core.List.{List, [], ◌∷◌}
+use Prim.Native.Nat.{ℕ, ◌+◌, ◌-◌, ◌≤◌}
+use mathlib.Core.Bool.{Bool, true, false}
+use mathlib.Core.List.{List, []}
 use mathlib.Core.Path.{◌≡◌, refl, sym, ◌∙◌, ap}
 use native.Mathlib.Omega.{arith}
-use borrow.Author.Tests.{le-leb, ltb-true}
+use borrow.Author.Tests.{le-leb}
 use lib.Dec.{ltb}
 use lib.ListN.{length, drop}
 use Rattle.octets.specs.declared.Fault.{Fault}
@@ -23,7 +23,7 @@ use Rattle.octets.proofs.Marks.{stands-room}
 use Rattle.octets.proofs.Onward.{tag-stands, tag-wrong, tag-cut}
 use Rattle.octets.proofs.Refusing.{Gives, given, gives-tag}
 use Rattle.octets.proofs.Tests.{held, failed}
-use Rattle.field.specs.Declarators.{Span, onwards, function_pointer, function_told, function_as}
+use Rattle.field.specs.Declarators.{Span, function_pointer, function_told, function_as}
 use Rattle.field.specs.Former.{name_closed, args_closed, is_function, former_function_as}
 use Rattle.field.specs.Helpers.{function_args}
 

@@ -7,7 +7,7 @@ use native.Mathlib.Omega.{arith}
 use lib.Dec.{leb, ltb}
 use lib.ListN.{length}
 use Rattle.octets.specs.Paper.Paper.{refuses}
-use Rattle.octets.specs.Refusals.{dimension_table_too_short, invalid_array_size, product_too_large}
+use Rattle.octets.specs.Refusals.{dimension_table_too_short, product_too_large}
 use Rattle.octets.proofs.Tests.{held, failed}
 use Rattle.field.specs.Declarators.{Said, Span, most, product, plain_told, array_told, scanned_as, parsed_as}
 use Rattle.field.specs.Declarators.Said.{function, plain, array, invalid}

@@ -1,10 +1,8 @@
 -- Laws of the two calls as a whole: what is answered where all is there, and where it is not.
-use Prim.Native.Nat.{ℕ, ◌/◌, ◌%◌, ◌≤◌, ◌<◌}
-use mathlib.Core.Bool.{Bool, true, false}
+use Prim.Native.Nat.{ℕ, ◌/◌, ◌%◌, ◌<◌}
 use mathlib.Core.List.{List}
-use mathlib.Core.Path.{◌≡◌, refl, sym, ◌∙◌, ap}
+use mathlib.Core.Path.{◌≡◌, sym, ◌∙◌, ap}
 use borrow.Author.Tests.{eq-eqb, ne_eqb}
-use lib.Dec.{eqb}
 use lib.ListN.{length, get_or, take}
 use lib.Seq.{take_at}
 use Rattle.octets.specs.Paper.{Paper}
@@ -14,7 +12,7 @@ use Rattle.octets.proofs.Tests.{held, failed}
 use Rattle.block.specs.Rows.{per_row}
 use Rattle.runtime.specs.Addresses.{null}
 use Rattle.index.specs.declared.index.Indexed.{Indexed}
-use Rattle.index.specs.Index.{head_of, link_of, heads_of, links_of, where_there, built, indexed_as, heads_after, links_after, paper_indexed, chain_from, found_as}
+use Rattle.index.specs.Index.{head_of, link_of, heads_of, links_of, where_there, built, indexed_as, paper_indexed, chain_from, found_as}
 use Rattle.index.specs.Helpers.{Cleared, Chained}
 use Rattle.index.specs.Calls.{«index::build»}
 use Rattle.index.proofs.Building.{heads_built, links-built}

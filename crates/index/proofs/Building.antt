@@ -1,5 +1,5 @@
 -- Laws of building: one row more in front of its bucket's chain, and what is left at the end.
-use Prim.Native.Nat.{ℕ, zero, suc, ◌+◌, ◌-◌, ◌≤◌, ◌<◌}
+use Prim.Native.Nat.{ℕ, suc, ◌+◌, ◌-◌, ◌≤◌, ◌<◌}
 use mathlib.Core.Bool.{Bool, true, false}
 use mathlib.Core.List.{List}
 use mathlib.Core.Path.{◌≡◌, refl, sym, ◌∙◌, ap}
@@ -9,7 +9,7 @@ use lib.Dec.{eqb}
 use lib.ListN.{length, get_or, set, length-set}
 use lib.Seq.{get_or-set_same, get_or-set_other}
 use Rattle.octets.specs.Tables.{over}
-use Rattle.index.specs.Index.{first_at, bucket_of, is_in, head_of, link_of, heads_of, links_of, numbers_from}
+use Rattle.index.specs.Index.{first_at, bucket_of, is_in, head_of, link_of, heads_of, links_of}
 use Rattle.index.specs.Helpers.{Cleared, Chained}
 use Rattle.index.proofs.Firsts.{first-here, first_on, numbers-over}
 

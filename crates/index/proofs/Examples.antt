@@ -2,7 +2,6 @@
 use Prim.Native.Nat.{ℕ}
 use mathlib.Core.List.{List, [], ◌∷◌, ◌++◌}
 use mathlib.Core.Path.{◌≡◌, refl}
-use lib.ListN.{length}
 use Rattle.octets.specs.Paper.Paper.{accepts, refuses}
 use Rattle.block.specs.Kinds.{code_number, kind_of}
 use Rattle.index.specs.Index.{first_at, numbers_from, heads_of, links_of, indexed_as, heads_after, links_after, chain, chain_from, found_as}

@@ -1,22 +1,22 @@
 -- Through an index that was built from these rows the search answers as the plain one does; and equal rows give an equal index.
-use Prim.Native.Nat.{ℕ, zero, suc, ◌+◌, ◌-◌, ◌*◌, ◌/◌, ◌%◌, ◌≤◌, ◌<◌}
+use Prim.Native.Nat.{ℕ, zero, suc, ◌+◌, ◌-◌, ◌/◌, ◌%◌, ◌≤◌, ◌<◌}
 use mathlib.Core.Bool.{Bool, true, false, ◌&&◌}
 use mathlib.Core.List.{List}
 use mathlib.Core.Path.{◌≡◌, refl, sym, ◌∙◌, ap}
 use native.Mathlib.Nat.{mod-lt}
 use native.Mathlib.Omega.{arith}
-use borrow.Author.Tests.{eq-eqb, ne_eqb, eqb-true, eqb-false, ltb-false}
+use borrow.Author.Tests.{eqb-true, eqb-false}
 use lib.Dec.{ltb, eqb}
 use lib.ListN.{length, get_or, take}
 use lib.Seq.{get_or-take}
 use Rattle.octets.specs.Paper.{Paper}
 use Rattle.octets.specs.Refusals.{not_there}
-use Rattle.octets.proofs.Tests.{held, failed}
+use Rattle.octets.proofs.Tests.{failed}
 use Rattle.block.specs.Rows.{Column, per_row, cell}
-use Rattle.runtime.specs.Addresses.{is_found, null, found, missing, seek, lookup_as}
+use Rattle.runtime.specs.Addresses.{is_found, null, found, seek, lookup_as}
 use Rattle.block.specs.Kinds.{kind_of}
 use Rattle.index.specs.Index.{first_at, bucket_of, is_in, head_of, link_of, heads_of, links_of, row_matches, chain, chain_from, found_as}
-use Rattle.index.proofs.Firsts.{first-none, first-here, first_on, first-same, numbers-many, number_at, numbers-same}
+use Rattle.index.proofs.Firsts.{first-none, first-here, first_on, first-same, number_at, numbers-same}
 use Rattle.index.proofs.Chains.{chain-ends, chain-found, chain-on}
 use Rattle.index.proofs.Room.{long-enough}
 

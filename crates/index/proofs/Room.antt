@@ -7,7 +7,7 @@ use native.Mathlib.Omega.{arith}
 use borrow.Author.Tests.{eq-eqb, ne_eqb, lt-ltb, le-ltb, ltb-true, ltb-false, eqb-true, eqb-false}
 use lib.Dec.{ltb, eqb}
 use Rattle.octets.specs.Paper.{Paper}
-use Rattle.octets.specs.Paper.Paper.{accepts, refuses}
+use Rattle.octets.specs.Paper.Paper.{refuses}
 use Rattle.octets.specs.Refusals.{not_there, index_too_short}
 use Rattle.octets.proofs.Tests.{held, failed}
 use Rattle.index.specs.Index.{is_short, where_there, built}

@@ -1,5 +1,5 @@
 -- What inner functions ensure. No rule uses it.
-use Rattle.std.specs.Prelude.{ℕ, ◌+◌, ◌-◌, ◌≤◌, ◌<◌, List, ◌≡◌, length, get_or}
+use Rattle.std.specs.Prelude.{ℕ, ◌-◌, ◌≤◌, ◌<◌, List, ◌≡◌, length, get_or}
 use Rattle.octets.specs.Paper.{Paper}
 use Rattle.index.specs.Index.{first_at, is_in, link_of, where_there, built}
 

@@ -9,7 +9,6 @@ use lib.Dec.{leb}
 use lib.ListN.{length, take, drop}
 use lib.Seq.{length-take-le}
 use Rattle.octets.specs.declared.Fault.TheVariants.{Cut}
-use Rattle.octets.specs.Looks.{part}
 use Rattle.octets.specs.Number.{tag}
 use Rattle.octets.specs.Reader.{Reader, Outcome, run, then, times, same, room, ended_by, stands, before}
 use Rattle.octets.specs.Reader.Reader.{done, refuse, stray, here, bytes, skip, until, begins}

@@ -2,13 +2,12 @@
 -- such a one.
 use Prim.Native.Nat.{ℕ, ◌<◌}
 use mathlib.Core.List.{List, []}
-use mathlib.Core.Path.{◌≡◌, refl, sym, ◌∙◌, ap}
+use mathlib.Core.Path.{◌≡◌, refl, ◌∙◌, ap}
 use native.Mathlib.Omega.{arith}
 use borrow.Author.Tests.{ne_eqb}
 use Rattle.octets.specs.declared.Fault.{Fault}
 use Rattle.octets.specs.declared.Fault.TheVariants.{Cut, Mark, Refusal}
 use Rattle.octets.specs.Former.{former_fault, former_told, as_two}
-use Rattle.octets.specs.Paper.{Paper}
 use Rattle.octets.specs.Paper.Paper.{refuses}
 use Rattle.octets.specs.Reader.{Outcome}
 use Rattle.octets.specs.Reader.Outcome.{read, fault}

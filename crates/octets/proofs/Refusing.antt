@@ -1,11 +1,10 @@
 -- Which refusals a tree gives: where every `refuse` in it has a number with some property, so has every refusal that it finds.
 use Prim.Native.Nat.{ℕ, zero, suc, ◌+◌, ◌-◌}
 use mathlib.Core.Bool.{Bool, true, false}
-use mathlib.Core.List.{List, []}
+use mathlib.Core.List.{List}
 use mathlib.Core.Path.{◌≡◌, subst}
 use native.Mathlib.Omega.{arith}
 use lib.ListN.{length, take, drop}
-use Rattle.octets.specs.declared.Fault.{Fault}
 use Rattle.octets.specs.declared.Fault.TheVariants.{Cut, Mark, Refusal}
 use Rattle.octets.specs.Number.{tag}
 use Rattle.octets.specs.Reader.{Reader, Outcome, run, then, times, same, room, ended_by, stands, before}

@@ -47,33 +47,20 @@ use Rattle.demands.specs.declared.Two.{Two}
 use Rattle.octets.proofs as octets
 use Rattle.octets.specs.contracts as octets_contracts
 use Rattle.primitive.proofs as primitive
-use Rattle.primitive.specs.contracts as primitive_contracts
 use Rattle.field.proofs as field
-use Rattle.field.specs.contracts as field_contracts
 use Rattle.dna.proofs as dna
-use Rattle.dna.specs.contracts as dna_contracts
 use Rattle.header.proofs as header
 use Rattle.header.specs.contracts as header_contracts
 use Rattle.block.proofs as block
-use Rattle.block.specs.contracts as block_contracts
 use Rattle.blend.proofs as blend
-use Rattle.blend.specs.contracts as blend_contracts
 use Rattle.walker.proofs as walker
-use Rattle.walker.specs.contracts as walker_contracts
 use Rattle.runtime.proofs as runtime
-use Rattle.runtime.specs.contracts as runtime_contracts
 use Rattle.index.proofs as index
-use Rattle.index.specs.contracts as index_contracts
 use Rattle.writable.proofs as writable
-use Rattle.writable.specs.contracts as writable_contracts
 use Rattle.writer.proofs as writer
-use Rattle.writer.specs.contracts as writer_contracts
 use Rattle.held.proofs as held
-use Rattle.held.specs.contracts as held_contracts
 use Rattle.exports.proofs as exports
-use Rattle.exports.specs.contracts as exports_contracts
 use Rattle.demands.proofs as demands
-use Rattle.demands.specs.contracts as demands_contracts
 use Rattle.octets.proofs.Lossless.{at_one, whole-numbered, whole-moved, whole-counted, whole-begun}
 use Rattle.primitive.proofs.Lossless.{whole_u8, whole_u16, whole_u32, whole_u64, whole_i8, whole_i16, whole_i32, whole_i64, whole_f32, whole_f64}
 use Rattle.field.proofs.Lossless.{whole-field, whole-function, whole-width}

@@ -10,7 +10,6 @@ use lib.ListN.{length, get_or, take, drop, length-append}
 use lib.Seq.{take_at, drop_at, length-take-le}
 use Rattle.octets.specs.declared.Endianness.{Endianness}
 use Rattle.octets.specs.Looks.{part}
-use Rattle.octets.specs.Number.{Bytes}
 use Rattle.octets.specs.Paper.{Paper}
 use Rattle.octets.specs.Reader.{Outcome, run}
 use Rattle.octets.specs.Reader.Outcome.{read}

@@ -7,8 +7,8 @@ ghost use Rattle.walker.specs.Calls as calls;
 
 use blend::blend::{Boundary, Last, boundary_at};
 use block::Row;
-use octets::Fault;
 use header::blend::{HeaderAnswer, header, refusal_of};
+use octets::Fault;
 
 /// A boundary, and whether the block before it is a DNA1.
 #[derive(Clone, Copy)]

@@ -13,10 +13,10 @@ ghost use Rattle.writable.specs.Calls as calls;
 
 use blend::blend::Last;
 use block::{Kind, Row, Takes};
-use octets::cursor::{Cursor, Moved};
-use octets::{Endianness, Fault, PointerSize};
 use dna::dna::{DnaCounted, dna_counts};
 use header::{FileFormat, Header, Version};
+use octets::cursor::{Cursor, Moved};
+use octets::{Endianness, Fault, PointerSize};
 
 /// A row of a table; nothing but zeros where the table does not have it.
 pub fn row_at(table: &[u64], row: usize) -> Row

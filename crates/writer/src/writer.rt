@@ -15,8 +15,8 @@ ghost use Rattle.writer.specs.Calls as calls;
 
 use crate::put::{put_bytes, put_eight, put_four, put_one};
 use block::Row;
-use octets::{Endianness, Fault, PointerSize};
 use header::{FileFormat, Header, Version};
+use octets::{Endianness, Fault, PointerSize};
 use writable::writable::{Needed, bytes_needed, row_at};
 
 /// How many bytes were written, or why none was.

@@ -1,6 +1,5 @@
 -- `read`: what `blend` answers, with the demand that it meets.
 use Rattle.demands.proofs.Cover.{every-block}
-use borrow.Author.Rules.{rules}
 use Rattle.demands.proofs.read.Goals as goal
 
 pub returns : goal.returns

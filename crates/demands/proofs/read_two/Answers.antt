@@ -1,6 +1,5 @@
 -- `read_two`: what `blend` answers of both files, with the demand that it meets.
 use Rattle.demands.proofs.Unaltered.{no_other_object}
-use borrow.Author.Rules.{rules}
 use Rattle.demands.proofs.read_two.Goals as goal
 
 pub returns : goal.returns

@@ -1,11 +1,9 @@
 -- `blend_view`: the payload that a row tells of, or refusal 13.
-use mathlib.Core.Path.{sym, ◌∙◌, ap}
+use mathlib.Core.Path.{ap}
 use Rattle.octets.specs.Paper.{Paper}
 use Rattle.block.specs.Rows.{Column, cell}
-use Rattle.runtime.specs.Views.{paper_view}
 use Rattle.runtime.proofs.Views.{view-no_row}
 use Rattle.exports.specs.Exports.{view_out}
-use borrow.Author.Rules.{rules}
 use Rattle.exports.proofs.blend_view.Goals as goal
 
 pub returns-else-row-table : goal.returns-else-row-table

@@ -1,5 +1,4 @@
 -- `with_digit`: the two tests, and the digit.
-use borrow.Author.Rules.{rules}
 use Rattle.header.proofs.Versions.{too_low, too_high, one-digit}
 use Rattle.header.proofs.with_digit.Goals as goal
 

@@ -3,7 +3,6 @@ use mathlib.Core.Path.{sym, ◌∙◌, ap}
 use Rattle.octets.proofs.Filling.{refused-kept}
 use Rattle.header.specs.Header.{paper_header}
 use Rattle.blend.proofs.Answers.{header-inside, file-read, file-table, file-refused}
-use borrow.Author.Rules.{rules}
 use Rattle.blend.proofs.blend.blend.Goals as goal
 
 pub returns-in_default : goal.returns-in_default

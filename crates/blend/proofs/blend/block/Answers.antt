@@ -8,7 +8,6 @@ use Rattle.blend.proofs.Rows.{row-no_header, row-no-payload, payload-fits, row-r
 use Rattle.block.proofs.Lossless.{whole_kind}
 use Rattle.block.specs.declared.About.{About}
 use Rattle.blend.specs.Blocks.{taken_by}
-use borrow.Author.Rules.{rules}
 use Rattle.blend.proofs.blend.block.Goals as goal
 
 pub overflow_add-payload : goal.overflow_add-payload

@@ -3,7 +3,6 @@ use mathlib.Core.Path.{sym, ◌∙◌, ap}
 use native.Mathlib.Omega.{arith}
 use Rattle.blend.specs.Helpers.{row_read}
 use Rattle.blend.proofs.Rows.{row_lies, end_mark_lem, boundary_stops, boundary_block}
-use borrow.Author.Rules.{rules}
 use Rattle.blend.proofs.blend.boundary_at.Goals as goal
 
 pub returns-then-stands_at : goal.returns-then-stands_at

@@ -1,11 +1,7 @@
 -- `count_blocks`: what is counted and what is left make the whole.
-use mathlib.Core.Path.{sym, ◌∙◌, ap}
-use native.Mathlib.Omega.{arith}
 use Prim.Native.Nat.{◌-◌}
 use lib.ListN.{length}
-use Rattle.blend.specs.declared.blend.Pass.{Pass}
-use Rattle.blend.proofs.Chains.{Counting, counting_starts, counting_ends, counting_stops, counting_more, block_moves, end-stops, mark-room}
-use borrow.Author.Rules.{rules}
+use Rattle.blend.proofs.Chains.{Counting}
 use Rattle.blend.proofs.blend.count_blocks.Given as goal
 
 abbrev pub invariant-loop-pass : goal.invariant-loop-pass

@@ -1,14 +1,9 @@
 -- `fill_rows`: a row a turn, up to the last.
-use mathlib.Core.Path.{◌≡◌}
 use native.Mathlib.Omega.{arith}
-use lib.ListN.{length}
-use Rattle.octets.proofs.Filling.{Storing, storing_from-front, storing_ends, row_fits_lem, row-stored}
-use Rattle.header.specs.Layout.{block_header_length}
-use Rattle.block.specs.Rows.{row_numbers, row_table}
-use Rattle.blend.specs.Helpers.{rows_from}
+use Rattle.octets.proofs.Filling.{storing_from-front, storing_ends, row_fits_lem, row-stored}
+use Rattle.block.specs.Rows.{row_numbers}
 use Rattle.blend.proofs.Chains.{rows_more, rows_none}
 use Rattle.blend.proofs.There.{next_fits, next-is}
-use borrow.Author.Rules.{rules}
 use Rattle.blend.proofs.blend.fill_rows.Goals as goal
 
 pub loop-left-init : goal.loop-left-init

@@ -5,7 +5,6 @@ use Rattle.octets.proofs.Parts.{slice-same, slice-long}
 use Rattle.blend.proofs.Rows.{other_finished, dna-finished, dna-stopped, dna-placed}
 use Rattle.block.proofs.Lossless.{whole_kind}
 use Rattle.block.specs.declared.About.{About}
-use borrow.Author.Rules.{rules}
 use Rattle.blend.proofs.blend.finished.Goals as goal
 
 pub within-requires : goal.within-requires

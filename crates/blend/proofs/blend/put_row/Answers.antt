@@ -2,10 +2,8 @@
 use mathlib.Core.Path.{◌≡◌, refl}
 use native.Mathlib.Omega.{arith}
 use Prim.Native.Nat.{◌+◌}
-use lib.ListN.{length-set}
 use Rattle.octets.specs.Helpers.{put}
 use Rattle.block.specs.Rows.{Column, column_of}
-use borrow.Author.Rules.{rules}
 use Rattle.blend.proofs.blend.put_row.Goals as goal
 
 pub returns : goal.returns

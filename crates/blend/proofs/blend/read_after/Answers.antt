@@ -1,8 +1,7 @@
 -- `read_after`: the first pass, the room, and the second pass.
-use mathlib.Core.Path.{refl, sym, ◌∙◌}
+use mathlib.Core.Path.{sym, ◌∙◌}
 use Rattle.blend.specs.Chain.{chain_from}
-use Rattle.blend.proofs.Answers.{after-stops, after-short, after_read, rows_fit, rows_all, rows_written}
-use borrow.Author.Rules.{rules}
+use Rattle.blend.proofs.Answers.{after_read, rows_fit, rows_all, rows_written}
 use Rattle.blend.proofs.blend.read_after.Goals as goal
 
 pub fill_rows-requires : goal.fill_rows-requires

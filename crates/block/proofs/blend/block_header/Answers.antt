@@ -2,7 +2,6 @@
 use mathlib.Core.Path.{sym, ◌∙◌, ap}
 use Rattle.octets.specs.Cursor.{moved}
 use Rattle.block.proofs.There.{header_fits_lem, header-taken, header-not_there}
-use borrow.Author.Rules.{rules}
 use Rattle.block.proofs.blend.block_header.Goals as goal
 
 pub header_there-requires : goal.header_there-requires

@@ -7,7 +7,6 @@ use Rattle.octets.specs.PointerSize.{pointer_bytes}
 use Rattle.octets.proofs.Tests.{failed}
 use Rattle.block.specs.BlockHeaders.{code_told, header_in}
 use Rattle.block.proofs.There.{told-again, header-whole}
-use borrow.Author.Rules.{rules}
 use Rattle.block.proofs.blend.header_in.Goals as goal
 
 pub returns-then-part-block_header_len : goal.returns-then-part-block_header_len

@@ -2,7 +2,6 @@
 use mathlib.Core.Path.{sym, ◌∙◌, ap}
 use Rattle.octets.specs.Cursor.{moved}
 use Rattle.block.proofs.Layouts.{last_missing, last-passed}
-use borrow.Author.Rules.{rules}
 use Rattle.block.proofs.blend.last_missing.Goals as goal
 
 pub returns-in-Stopped : goal.returns-in-Stopped

@@ -2,7 +2,6 @@
 use mathlib.Core.Path.{sym, ◌∙◌, ap}
 use Rattle.primitive.specs.Primitive.{paper_u64}
 use Rattle.primitive.proofs.Values.{value-is, value_lacks}
-use borrow.Author.Rules.{rules}
 use Rattle.block.proofs.blend.long.Goals as goal
 
 pub returns-in-Is : goal.returns-in-Is

@@ -2,7 +2,6 @@
 use mathlib.Core.Path.{sym, ◌∙◌, ap}
 use Rattle.octets.specs.Cursor.{moved, numbered}
 use Rattle.block.proofs.Layouts.{code-missing, first-number-missing, address-missing, address-null, last-short, rest-missing}
-use borrow.Author.Rules.{rules}
 use Rattle.block.proofs.blend.missing.Goals as goal
 
 pub last_missing-requires : goal.last_missing-requires

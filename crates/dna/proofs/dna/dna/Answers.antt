@@ -1,6 +1,5 @@
 -- `dna`: refused, every table is as it was; accepted, each table has the rows that its filling wrote.
 use mathlib.Core.Path.{refl, sym, ◌∙◌, ap}
-use borrow.Author.Rules.{rules}
 use Rattle.octets.specs.Reader.{run}
 use Rattle.dna.specs.Catalogue.{catalogue, paper_tables}
 use Rattle.dna.proofs.Answers.{all_fit, answered_so, names-room, types-room, structs-room, fields-room, refused_so, stopped_so, filled_so}

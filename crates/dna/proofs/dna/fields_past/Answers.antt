@@ -1,6 +1,5 @@
 -- `fields_past`: as `sizes_past`, with field records.
 use Rattle.dna.proofs.Shorts.{fields-there, fields-cut}
-use borrow.Author.Rules.{rules}
 use Rattle.dna.proofs.dna.fields_past.Goals as goal
 
 pub returns-then-n-there : goal.returns-then-n-there

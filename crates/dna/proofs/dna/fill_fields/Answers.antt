@@ -1,9 +1,8 @@
 -- `fill_fields`: struct after struct, each from where the rows of the last ended.
 use Prim.Native.Nat.{◌+◌, ◌-◌}
 use native.Mathlib.Omega.{arith}
-use borrow.Author.Rules.{rules}
 use Rattle.octets.specs.Helpers.{leading}
-use Rattle.octets.proofs.Filling.{Storing, storing_from-front, storing_ends, row_fits_lem, row-stored}
+use Rattle.octets.proofs.Filling.{storing_from-front, storing_ends, row_fits_lem, row-stored}
 use Rattle.dna.specs.Catalogue.{pairs, field_rows, field, struct}
 use Rattle.dna.proofs.Rows.{fields_more, fields-no_more, fields-none}
 use Rattle.dna.proofs.dna.fill_fields.Goals as goal

@@ -1,11 +1,7 @@
 -- `fill_fields`: struct after struct, each from where the rows of the last ended.
-use Prim.Native.Nat.{◌+◌, ◌-◌}
-use native.Mathlib.Omega.{arith}
-use borrow.Author.Rules.{rules}
 use Rattle.octets.specs.Helpers.{leading}
-use Rattle.octets.proofs.Filling.{Storing, storing_from-front, storing_ends, row_fits_lem, row-stored}
-use Rattle.dna.specs.Catalogue.{pairs, field_rows, field, struct}
-use Rattle.dna.proofs.Rows.{fields_more, fields-no_more, fields-none}
+use Rattle.octets.proofs.Filling.{Storing}
+use Rattle.dna.specs.Catalogue.{field_rows, struct}
 use Rattle.dna.proofs.dna.fill_fields.Given as goal
 
 abbrev pub invariant-loop-left : goal.invariant-loop-left

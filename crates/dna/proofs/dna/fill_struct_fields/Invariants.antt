@@ -1,13 +1,9 @@
 -- `fill_struct_fields`: as `fill_names`, from the text i of the table on, with records that are all there.
-use Prim.Native.Nat.{◌+◌, ◌*◌, ◌-◌, ◌≤◌}
-use mathlib.Core.List.{[], ◌∷◌}
-use native.Mathlib.Omega.{arith}
+use Prim.Native.Nat.{◌+◌, ◌*◌, ◌≤◌}
 use lib.ListN.{length}
 use Rattle.octets.specs.Helpers.{leading}
-use Rattle.octets.proofs.Filling.{Storing, storing_starts, storing_ends, storing_ends-at, row_fits_lem, row-stored}
+use Rattle.octets.proofs.Filling.{Storing}
 use Rattle.dna.specs.Catalogue.{pairs, field}
-use Rattle.dna.proofs.Rows.{pair_more, pair_none}
-use Rattle.dna.proofs.Shorts.{field_there}
 use Rattle.dna.proofs.dna.fill_struct_fields.Given as goal
 
 abbrev pub invariant-loop-left : goal.invariant-loop-left

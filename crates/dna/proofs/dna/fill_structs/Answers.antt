@@ -1,10 +1,9 @@
 -- `fill_structs`: as `fill_names`, with the fields counted so far as the next first row.
-use Prim.Native.Nat.{◌+◌, ◌-◌, ◌≤◌}
+use Prim.Native.Nat.{◌+◌, ◌-◌}
 use mathlib.Core.List.{[], ◌∷◌}
 use native.Mathlib.Omega.{arith}
-use borrow.Author.Rules.{rules}
 use Rattle.octets.specs.Helpers.{leading}
-use Rattle.octets.proofs.Filling.{Storing, storing_from-front, storing_ends, row_fits_lem, row-stored}
+use Rattle.octets.proofs.Filling.{storing_from-front, storing_ends, row_fits_lem, row-stored}
 use Rattle.dna.specs.Catalogue.{struct_rows, struct}
 use Rattle.dna.proofs.Rows.{struct_more, struct-no_more, struct-none}
 use Rattle.dna.proofs.dna.fill_structs.Goals as goal

@@ -3,10 +3,9 @@ use Prim.Native.Nat.{◌-◌}
 use mathlib.Core.List.{[], ◌∷◌}
 use mathlib.Core.Path.{sym, ◌∙◌, ap}
 use native.Mathlib.Omega.{arith}
-use borrow.Author.Rules.{rules}
 use Rattle.octets.specs.Cursor.{counted, numbered}
 use Rattle.octets.specs.Helpers.{leading}
-use Rattle.octets.proofs.Filling.{Storing, storing_from-front, storing_ends, row_fits_lem, row-stored}
+use Rattle.octets.proofs.Filling.{storing_from-front, storing_ends, row_fits_lem, row-stored}
 use Rattle.dna.specs.Catalogue.{type_rows, text, size}
 use Rattle.dna.proofs.Counting.{place_read, place-stops}
 use Rattle.dna.proofs.Rows.{type_more, type_no-place, type_no-size, type_none}

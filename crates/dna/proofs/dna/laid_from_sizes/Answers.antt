@@ -1,6 +1,5 @@
 -- `laid_from_sizes`: sizes and structs, and with the names and types found before them the whole layout.
 use mathlib.Core.Path.{◌∙◌}
-use borrow.Author.Rules.{rules}
 use Rattle.dna.specs.Passes.{span_of}
 use Rattle.dna.proofs.Layouts.{structs-stopped, structs-found, sizes-stopped, sizes-found}
 use Rattle.dna.proofs.dna.laid_from_sizes.Goals as goal

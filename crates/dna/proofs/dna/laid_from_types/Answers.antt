@@ -1,5 +1,4 @@
 -- `laid_from_types`: the types, and the rest as `laid_from_sizes` has it.
-use borrow.Author.Rules.{rules}
 use Rattle.dna.specs.Passes.{span_of}
 use Rattle.dna.proofs.Layouts.{types-stopped, types-found}
 use Rattle.dna.proofs.dna.laid_from_types.Goals as goal

@@ -1,7 +1,6 @@
 -- `list`: the mark, and the counted strings.
 use Rattle.dna.proofs.Counting.{listed-stops, listed-on}
 use mathlib.Core.Path.{sym, ◌∙◌, ap}
-use borrow.Author.Rules.{rules}
 use Rattle.octets.specs.Cursor.{moved}
 use Rattle.dna.proofs.dna.list.Goals as goal
 

@@ -1,8 +1,6 @@
 -- `list_counted`: the count, and as many strings.
 use mathlib.Core.Path.{sym, ◌∙◌, ap}
-use borrow.Author.Rules.{rules}
 use Rattle.octets.specs.Cursor.{numbered}
-use Rattle.octets.specs.Number.{number}
 use Rattle.octets.proofs.Onward.{number-on, number-stops}
 use Rattle.dna.specs.Catalogue.{strings}
 use Rattle.dna.proofs.dna.list_counted.Goals as goal

@@ -1,8 +1,7 @@
 -- `list_strings`: strings, and the padding over all their bytes.
 use mathlib.Core.Path.{sym, ◌∙◌, ap}
-use borrow.Author.Rules.{rules}
 use Rattle.octets.specs.Cursor.{moved}
-use Rattle.dna.specs.Catalogue.{text, strings}
+use Rattle.dna.specs.Catalogue.{text}
 use Rattle.dna.proofs.Counting.{all-many, all_after, strings_stop, padding-stops, padding-read}
 use Rattle.dna.proofs.dna.list_strings.Goals as goal
 

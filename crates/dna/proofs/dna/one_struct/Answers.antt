@@ -1,6 +1,5 @@
 -- `one_struct`: type number, count, and past the fields, whose number is the count.
 use mathlib.Core.Path.{sym, ◌∙◌, ap}
-use borrow.Author.Rules.{rules}
 use Rattle.octets.specs.Cursor.{moved, numbered}
 use Rattle.dna.proofs.Counting.{struct-stops, struct-stops_later, struct-stops-fields, struct-headed}
 use Rattle.dna.proofs.Shorts.{struct-ends, struct-within}

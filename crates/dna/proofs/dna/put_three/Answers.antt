@@ -3,9 +3,7 @@ use Prim.Native.Nat.{◌+◌}
 use mathlib.Core.Path.{◌≡◌}
 use mathlib.Core.Path.{refl}
 use native.Mathlib.Omega.{arith}
-use lib.ListN.{length-set}
 use Rattle.octets.specs.Helpers.{put}
-use borrow.Author.Rules.{rules}
 use Rattle.dna.proofs.dna.put_three.Goals as goal
 
 pub returns : goal.returns

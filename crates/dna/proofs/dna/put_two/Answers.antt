@@ -1,9 +1,6 @@
 -- `put_two`: two stores, one after the other.
 use mathlib.Core.Path.{refl}
-use native.Mathlib.Omega.{arith}
-use lib.ListN.{length-set}
 use Rattle.octets.specs.Helpers.{put}
-use borrow.Author.Rules.{rules}
 use Rattle.dna.proofs.dna.put_two.Goals as goal
 
 pub returns : goal.returns

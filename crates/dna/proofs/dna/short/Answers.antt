@@ -2,7 +2,6 @@
 use mathlib.Core.Path.{sym, ◌∙◌, ap}
 use Rattle.primitive.specs.Primitive.{paper_u16}
 use Rattle.primitive.proofs.Values.{value-is, value_lacks}
-use borrow.Author.Rules.{rules}
 use Rattle.dna.proofs.dna.short.Goals as goal
 
 pub returns-in-Is : goal.returns-in-Is

@@ -1,6 +1,5 @@
 -- `sizes`: the mark, the sizes, and the padding over their bytes: 2 bytes each.
 use mathlib.Core.Path.{sym, ◌∙◌, ap}
-use borrow.Author.Rules.{rules}
 use Rattle.octets.specs.Cursor.{moved}
 use Rattle.dna.specs.Catalogue.{size}
 use Rattle.dna.proofs.Counting.{all-many, all_after, no_tlen, sizes_stop, sizes-padding-stops, sizes-read}

@@ -1,6 +1,5 @@
 -- `sizes_past`: past m sizes, or where the first stands that is not there.
 use Rattle.dna.proofs.Shorts.{sizes-there, sizes-cut}
-use borrow.Author.Rules.{rules}
 use Rattle.dna.proofs.dna.sizes_past.Goals as goal
 
 pub returns-then-m-there : goal.returns-then-m-there

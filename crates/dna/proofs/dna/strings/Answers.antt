@@ -1,10 +1,7 @@
 -- `strings`: the strings that are left are read from where the loop stands, as the tree reads them from its start.
-use mathlib.Core.Path.{◌≡◌, refl, sym, ◌∙◌, ap}
+use mathlib.Core.Path.{refl, sym, ◌∙◌, ap}
 use native.Mathlib.Omega.{arith}
-use borrow.Author.Rules.{rules}
 use Rattle.octets.specs.Cursor.{counted}
-use Rattle.octets.specs.Helpers.{past}
-use Rattle.octets.specs.Reader.{run, times}
 use Rattle.dna.specs.Catalogue.{text}
 use Rattle.dna.proofs.Counting.{place_read, place-stops, turn, turn-stops, turn_last}
 use Rattle.dna.proofs.dna.strings.Goals as goal

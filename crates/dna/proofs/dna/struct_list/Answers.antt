@@ -1,6 +1,5 @@
 -- `struct_list`: the mark, the count, and as many structs.
 use mathlib.Core.Path.{sym, ◌∙◌, ap}
-use borrow.Author.Rules.{rules}
 use Rattle.octets.specs.Cursor.{moved, numbered}
 use Rattle.dna.specs.Passes.{struct_total}
 use Rattle.dna.proofs.Counting.{no_strc, no-struct-count, structs_stop, structs-read}

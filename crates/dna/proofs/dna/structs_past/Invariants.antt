@@ -1,12 +1,9 @@
 -- `structs_past`: as `strings`, with structs, and with the sum of their counts. The sum is below the payload's length, so it fits.
 use Prim.Native.Nat.{◌≤◌}
-use mathlib.Core.Path.{◌≡◌, refl, sym, ◌∙◌}
-use native.Mathlib.Omega.{arith}
-use borrow.Author.Rules.{rules}
+use mathlib.Core.Path.{◌≡◌}
 use Rattle.octets.specs.Reader.{run, times}
 use Rattle.dna.specs.Catalogue.{struct}
 use Rattle.dna.specs.Passes.{totalled}
-use Rattle.dna.proofs.Counting.{total_more, total_stops, total_last}
 use Rattle.dna.proofs.dna.structs_past.Given as goal
 
 abbrev pub invariant-loop-left : goal.invariant-loop-left

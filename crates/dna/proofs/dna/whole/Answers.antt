@@ -1,6 +1,5 @@
 -- `whole`: the mark, the names, and the rest as `laid_from_types` has it.
 use mathlib.Core.Path.{sym, ◌∙◌, ap}
-use borrow.Author.Rules.{rules}
 use Rattle.octets.specs.Cursor.{moved}
 use Rattle.dna.proofs.Layouts.{sdna_stopped, names-stopped, names-found}
 use Rattle.dna.proofs.dna.whole.Goals as goal

@@ -1,13 +1,9 @@
 -- `array_dimensions` takes the groups while they are complete. The invariant: what was found so far and the groups from here on are what
 use Prim.Native.Nat.{◌-◌, ◌≤◌}
-use mathlib.Core.Path.{◌≡◌, refl, sym, ◌∙◌}
-use native.Mathlib.Omega.{arith}
-use borrow.Author.Rules.{rules}
-use lib.ListN.{length, drop, length-drop}
-use lib.Seq.{drop-drop}
+use mathlib.Core.Path.{◌≡◌}
+use lib.ListN.{length, drop}
 use Rattle.field.specs.declared.field.Product.{Product}
 use Rattle.field.specs.Helpers.{finish}
-use Rattle.field.proofs.Dimensions.{group_at, span_within, finish-is, finish_bad, finish_absent}
 use Rattle.field.proofs.field.array_dimensions.Given as goal
 
 abbrev pub invariant-loop-d : goal.invariant-loop-d

@@ -1,11 +1,8 @@
 -- `digits` reads decimal digits. The invariant: the digits so far are a number of 64 bits, and the rule goes on from here.
-use Prim.Native.Nat.{◌+◌, ◌*◌, ◌-◌, ◌≤◌, ◌<◌}
-use mathlib.Core.Path.{◌≡◌, sym, ◌∙◌, ap}
-use native.Mathlib.Omega.{arith}
-use lib.ListN.{length, get_or, drop}
+use Prim.Native.Nat.{◌-◌, ◌≤◌}
+use mathlib.Core.Path.{◌≡◌}
+use lib.ListN.{length, drop}
 use Rattle.field.specs.Declarators.{most, at_most, digits, unsigned}
-use Rattle.field.specs.Helpers.{decimal_of}
-use Rattle.field.proofs.Decimals.{no_digit, some-digit, below_digits, above-digits, next-digit, digit-too_large, no_more}
 use Rattle.field.proofs.field.digits.Given as goal
 
 abbrev pub invariant-loop-i : goal.invariant-loop-i

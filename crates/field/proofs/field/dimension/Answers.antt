@@ -4,7 +4,6 @@ use Rattle.octets.proofs.Reading.{to_the_end}
 use Rattle.field.specs.Declarators.{unsigned}
 use Rattle.field.specs.Helpers.{decimal_of}
 use Rattle.field.proofs.Decimals.{empty_decimal, signed_decimal, plain-decimal}
-use borrow.Author.Rules.{rules}
 use Rattle.field.proofs.field.dimension.Goals as goal
 
 pub returns-then-part-eq0 : goal.returns-then-part-eq0

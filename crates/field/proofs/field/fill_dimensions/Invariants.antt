@@ -1,9 +1,7 @@
 -- `fill_dimensions` writes the numbers in order. The invariant is `Filling`: the numbers so far, and then what the table held.
-use Prim.Native.Nat.{◌-◌, ◌<◌}
-use native.Mathlib.Omega.{arith}
-use borrow.Author.Rules.{rules}
-use lib.ListN.{length, drop}
-use Rattle.field.proofs.Dimensions.{Filling, group_at, leading_bad, leading_absent, filling_starts, filling_goes_on, filling_ends, next_span, next_place}
+use Prim.Native.Nat.{◌-◌}
+use lib.ListN.{length}
+use Rattle.field.proofs.Dimensions.{Filling}
 use Rattle.field.proofs.field.fill_dimensions.Given as goal
 
 abbrev pub invariant-loop-d : goal.invariant-loop-d

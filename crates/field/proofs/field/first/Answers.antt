@@ -3,8 +3,7 @@ use Prim.Native.Nat.{◌+◌}
 use mathlib.Core.Path.{◌≡◌}
 use native.Mathlib.Omega.{arith}
 use Rattle.field.specs.Declarators.{first}
-use Rattle.field.proofs.Dimensions.{first_past, first_on, first-le}
-use borrow.Author.Rules.{rules}
+use Rattle.field.proofs.Dimensions.{first_on, first-le}
 use Rattle.field.proofs.field.first.Goals as goal
 
 pub overflow_add-result : goal.overflow_add-result

@@ -2,7 +2,6 @@
 use mathlib.Core.Path.{◌∙◌, ap}
 use Rattle.field.specs.Declarators.{paper_function}
 use Rattle.field.proofs.Told.{function_told_lem}
-use borrow.Author.Rules.{rules}
 use Rattle.field.proofs.field.fn_pointer.Goals as goal
 
 pub returns : goal.returns

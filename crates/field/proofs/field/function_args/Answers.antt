@@ -2,7 +2,6 @@
 use mathlib.Core.Path.{sym, ◌∙◌, ap}
 use Rattle.octets.specs.Cursor.{moved, counted}
 use Rattle.field.proofs.Scans.{args_stop, args_open, args_read, rest-inside}
-use borrow.Author.Rules.{rules}
 use Rattle.field.proofs.field.function_args.Goals as goal
 
 pub overflow_sub-result : goal.overflow_sub-result

@@ -2,7 +2,6 @@
 use mathlib.Core.Path.{sym, ◌∙◌, ap}
 use Rattle.octets.specs.Cursor.{moved, counted}
 use Rattle.field.proofs.Scans.{no_opening, name_open, name-read}
-use borrow.Author.Rules.{rules}
 use Rattle.field.proofs.field.function_pointer.Goals as goal
 
 pub returns-in-Stopped : goal.returns-in-Stopped

@@ -1,7 +1,6 @@
 -- `one_group` reads the group at the front, by its two brackets and its content.
 use mathlib.Core.Path.{sym, ◌∙◌}
 use Rattle.field.proofs.Dimensions.{no_bracket, no_end, is_group, is_bad}
-use borrow.Author.Rules.{rules}
 use Rattle.field.proofs.field.one_group.Goals as goal
 
 pub returns-then-l-end : goal.returns-then-l-end

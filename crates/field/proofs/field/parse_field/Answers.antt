@@ -4,7 +4,6 @@ use Rattle.octets.proofs.Filling.{refused-kept}
 use mathlib.Core.Path.{sym, ◌∙◌}
 use native.Mathlib.Omega.{arith}
 use Rattle.field.proofs.Told.{plain_told_lem, plain-parsed, plain-kept, invalid-parsed, arrayed, array-scanned, array-too_large, array-room, array-no-room, array_written, groups-inside, groups-few}
-use borrow.Author.Rules.{rules}
 use Rattle.field.proofs.field.parse_field.Goals as goal
 
 pub returns-then-dimensions-count : goal.returns-then-dimensions-count

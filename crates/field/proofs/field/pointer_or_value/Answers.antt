@@ -2,7 +2,6 @@
 use mathlib.Core.Path.{sym, ◌∙◌}
 use native.Mathlib.Omega.{arith}
 use Rattle.field.proofs.Scans.{end-le, plain_scan, bad_scan, span_le, array_scan}
-use borrow.Author.Rules.{rules}
 use Rattle.field.proofs.field.pointer_or_value.Goals as goal
 
 pub returns-then-end-name : goal.returns-then-end-name

@@ -2,7 +2,6 @@
 use mathlib.Core.Path.{sym, ◌∙◌, ap}
 use Rattle.field.specs.Declarators.{scanned_as}
 use Rattle.field.proofs.Told.{plain_told_lem, invalid-told, arrayed, array-scanned, array-too_large}
-use borrow.Author.Rules.{rules}
 use Rattle.field.proofs.field.scan_field.Goals as goal
 
 pub returns-in-Plain : goal.returns-in-Plain

@@ -1,7 +1,6 @@
 -- `scanned` tries a function pointer first.
 use mathlib.Core.Path.{sym, ◌∙◌}
 use Rattle.field.proofs.Told.{as_function, as_other}
-use borrow.Author.Rules.{rules}
 use Rattle.field.proofs.field.scanned.Goals as goal
 
 pub returns-in-Is : goal.returns-in-Is

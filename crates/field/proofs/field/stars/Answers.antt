@@ -1,10 +1,7 @@
 -- `stars` counts asterisks. The invariant: all so far are, so the count goes on from here.
-use Prim.Native.Nat.{◌+◌, ◌-◌, ◌≤◌}
-use mathlib.Core.Path.{◌≡◌, sym}
+use mathlib.Core.Path.{sym}
 use native.Mathlib.Nat.{zero-add}
 use native.Mathlib.Omega.{arith}
-use lib.ListN.{length, drop}
-use Rattle.field.specs.Declarators as rules
 use Rattle.field.proofs.Dimensions.{stars-end, stars-on, stars-past}
 use Rattle.field.proofs.field.stars.Goals as goal
 

@@ -1,11 +1,8 @@
 -- `stars` counts asterisks. The invariant: all so far are, so the count goes on from here.
 use Prim.Native.Nat.{◌+◌, ◌-◌, ◌≤◌}
-use mathlib.Core.Path.{◌≡◌, sym}
-use native.Mathlib.Nat.{zero-add}
-use native.Mathlib.Omega.{arith}
+use mathlib.Core.Path.{◌≡◌}
 use lib.ListN.{length, drop}
 use Rattle.field.specs.Declarators as rules
-use Rattle.field.proofs.Dimensions.{stars-end, stars-on, stars-past}
 use Rattle.field.proofs.field.stars.Given as goal
 
 abbrev pub invariant-loop-i : goal.invariant-loop-i

@@ -1,9 +1,6 @@
 -- `from_digits`: what was read so far goes on with the bytes that are left.
-use Prim.Native.Nat.{◌-◌, ◌^◌, ◌<◌}
-use mathlib.Core.Path.{◌≡◌, refl, ◌∙◌}
+use mathlib.Core.Path.{refl, ◌∙◌}
 use native.Mathlib.Omega.{arith}
-use lib.ListN.{length, drop}
-use Rattle.header.specs.Header.{decimal}
 use Rattle.header.proofs.Versions.{decimal_more, decimal-last, thousand, bounded}
 use Rattle.header.proofs.Version.from_digits.Goals as goal
 

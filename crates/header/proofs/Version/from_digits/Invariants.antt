@@ -1,10 +1,8 @@
 -- `from_digits`: what was read so far goes on with the bytes that are left.
 use Prim.Native.Nat.{◌-◌, ◌^◌, ◌<◌}
-use mathlib.Core.Path.{◌≡◌, refl, ◌∙◌}
-use native.Mathlib.Omega.{arith}
+use mathlib.Core.Path.{◌≡◌}
 use lib.ListN.{length, drop}
 use Rattle.header.specs.Header.{decimal}
-use Rattle.header.proofs.Versions.{decimal_more, decimal-last, thousand, bounded}
 use Rattle.header.proofs.Version.from_digits.Given as goal
 
 abbrev pub invariant-loop-i : goal.invariant-loop-i

@@ -1,6 +1,5 @@
 -- `endianness`: the first mark, or else the second.
 use mathlib.Core.Path.{sym, ◌∙◌, ap}
-use borrow.Author.Rules.{rules}
 use Rattle.octets.specs.declared.Endianness.TheVariants.{Little, Big}
 use Rattle.octets.specs.Ascii.{ascii}
 use Rattle.octets.specs.Cursor.{moved}

@@ -1,7 +1,6 @@
 -- `header_in`: the magic, then the byte after it.
 use mathlib.Core.Path.{◌∙◌}
 use Rattle.header.proofs.Headers.{no-magic, header-short, header-long, header-new}
-use borrow.Author.Rules.{rules}
 use Rattle.header.proofs.blend.header_in.Goals as goal
 
 pub returns-then-short : goal.returns-then-short

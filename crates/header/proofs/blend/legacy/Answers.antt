@@ -3,7 +3,6 @@ use mathlib.Core.Path.{sym, ◌∙◌, ap}
 use Rattle.header.specs.declared.FileFormat.TheVariants.{Legacy}
 use Rattle.header.specs.Header.{endianness_read, version_read}
 use Rattle.header.proofs.Headers.{read_same, made, legacy-no-order, legacy-made}
-use borrow.Author.Rules.{rules}
 use Rattle.header.proofs.blend.legacy.Goals as goal
 
 pub returns-in-Stopped : goal.returns-in-Stopped

@@ -3,7 +3,6 @@ use mathlib.Core.Path.{sym, ◌∙◌, ap}
 use Rattle.octets.specs.Cursor.{moved}
 use Rattle.header.specs.Header.{pointer_size_read}
 use Rattle.header.proofs.Headers.{new-no-bytes, new-no-mark, new-made}
-use borrow.Author.Rules.{rules}
 use Rattle.header.proofs.blend.new.Goals as goal
 
 pub returns-in-Stopped : goal.returns-in-Stopped

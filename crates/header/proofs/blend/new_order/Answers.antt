@@ -4,7 +4,6 @@ use Rattle.header.specs.declared.FileFormat.TheVariants.{New}
 use Rattle.octets.specs.Cursor.{moved}
 use Rattle.header.specs.Header.{endianness_read, version_read}
 use Rattle.header.proofs.Headers.{read_same, made, order-no-bytes, order-no-mark, order-made}
-use borrow.Author.Rules.{rules}
 use Rattle.header.proofs.blend.new_order.Goals as goal
 
 pub returns-in-Stopped : goal.returns-in-Stopped

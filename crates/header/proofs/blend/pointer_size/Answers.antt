@@ -1,6 +1,5 @@
 -- `pointer_size`: the first mark, or else the second.
 use mathlib.Core.Path.{sym, ◌∙◌, ap}
-use borrow.Author.Rules.{rules}
 use Rattle.octets.specs.declared.PointerSize.TheVariants.{Bits32, Bits64}
 use Rattle.octets.specs.Ascii.{ascii}
 use Rattle.octets.specs.Cursor.{moved}

@@ -2,7 +2,6 @@
 use mathlib.Core.Path.{sym, ◌∙◌, ap}
 use Rattle.octets.specs.Cursor.{moved}
 use Rattle.header.proofs.Headers.{version-stops, part-short, version-is}
-use borrow.Author.Rules.{rules}
 use Rattle.header.proofs.blend.version_bytes.Goals as goal
 
 pub from_digits-requires : goal.from_digits-requires

@@ -1,14 +1,8 @@
 -- `build`: all is there, and the rows are chained; or nothing is written.
-use mathlib.Core.Path.{refl, sym, ◌∙◌, ap}
-use native.Mathlib.Omega.{arith}
-use Prim.Native.Nat.{◌/◌}
-use lib.ListN.{length}
-use Rattle.block.specs.Rows.{per_row}
-use Rattle.index.specs.declared.index.Indexed.{Indexed}
+use mathlib.Core.Path.{sym, ◌∙◌, ap}
 use Rattle.index.specs.Index.{paper_indexed}
 use Rattle.index.proofs.Room.{room-there}
-use Rattle.index.proofs.Answers.{builds, builds_not}
-use borrow.Author.Rules.{rules}
+use Rattle.index.proofs.Answers.{builds}
 use Rattle.index.proofs.index.build.Goals as goal
 
 pub returns-in-Built : goal.returns-in-Built

@@ -1,10 +1,7 @@
 -- `chain_rows`: from the last row to the first, each in front of its chain.
-use Prim.Native.Nat.{◌≤◌}
 use mathlib.Core.Path.{◌≡◌}
 use native.Mathlib.Omega.{arith}
-use Rattle.index.specs.Helpers.{Chained}
 use Rattle.index.proofs.Building.{chaining_starts, chaining_more}
-use borrow.Author.Rules.{rules}
 use Rattle.index.proofs.index.chain_rows.Goals as goal
 
 pub loop-row-init : goal.loop-row-init

@@ -1,10 +1,6 @@
 -- `clear`: a number a turn.
 use Prim.Native.Nat.{◌-◌, ◌≤◌}
-use mathlib.Core.Path.{◌≡◌}
-use native.Mathlib.Omega.{arith}
 use Rattle.index.specs.Helpers.{Cleared}
-use Rattle.index.proofs.Building.{clears, clears_more}
-use borrow.Author.Rules.{rules}
 use Rattle.index.proofs.index.clear.Given as goal
 
 abbrev pub invariant-loop-i : goal.invariant-loop-i

@@ -1,14 +1,8 @@
 -- `find`: all is there, and a chain is followed; or it is refused.
 use mathlib.Core.Path.{sym, ◌∙◌, ap}
-use native.Mathlib.Nat.{mod-lt}
-use native.Mathlib.Omega.{arith}
-use Prim.Native.Nat.{◌/◌}
-use lib.ListN.{length}
-use Rattle.block.specs.Rows.{per_row}
 use Rattle.index.specs.Index.{paper_indexed}
 use Rattle.index.proofs.Room.{room-there}
 use Rattle.index.proofs.Answers.{finds-null, finds, finds_not}
-use borrow.Author.Rules.{rules}
 use Rattle.index.proofs.index.find.Goals as goal
 
 pub returns-then-address-eq0 : goal.returns-then-address-eq0

@@ -1,9 +1,7 @@
 -- `follow`: what is left of a chain is all of it.
-use Prim.Native.Nat.{◌-◌}
 use mathlib.Core.Path.{refl, sym, ◌∙◌}
 use native.Mathlib.Omega.{arith}
-use Rattle.index.proofs.Chains.{Following, following_starts, following_ends, following_leaves, following_falls, following_found, following_on}
-use borrow.Author.Rules.{rules}
+use Rattle.index.proofs.Chains.{following_starts, following_ends, following_leaves, following_falls, following_found, following_on}
 use Rattle.index.proofs.index.follow.Goals as goal
 
 pub loop-number-init : goal.loop-number-init

@@ -1,10 +1,7 @@
 -- `place_by_bytes` counts on from a place. The invariant: there was none so far, so the count goes on from here.
-use Prim.Native.Nat.{◌+◌, ◌-◌, ◌≤◌}
-use mathlib.Core.Path.{◌≡◌, refl}
+use mathlib.Core.Path.{refl}
 use native.Mathlib.Omega.{arith}
 use borrow.Author.Rules.{rules}
-use lib.ListN.{length, drop}
-use Rattle.octets.specs.Reader as rules
 use Rattle.octets.proofs.Marks.{found_here, found_later, found_never}
 use Rattle.octets.proofs.cursor.place_by_bytes.Goals as goal
 

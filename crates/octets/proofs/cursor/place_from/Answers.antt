@@ -1,10 +1,7 @@
 -- `place_from`: as `place_by_bytes`, with eight steps a turn.
-use Prim.Native.Nat.{◌+◌, ◌-◌, ◌≤◌}
-use mathlib.Core.Path.{◌≡◌, refl, sym, ◌∙◌}
+use mathlib.Core.Path.{refl, sym, ◌∙◌}
 use native.Mathlib.Omega.{arith}
 use borrow.Author.Rules.{rules}
-use lib.ListN.{length, drop}
-use Rattle.octets.specs.Reader as rules
 use Rattle.octets.proofs.Marks.{place_here, place-past}
 use Rattle.octets.proofs.cursor.place_from.Goals as goal
 

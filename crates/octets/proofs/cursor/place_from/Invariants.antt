@@ -1,11 +1,8 @@
 -- `place_from`: as `place_by_bytes`, with eight steps a turn.
 use Prim.Native.Nat.{◌+◌, ◌-◌, ◌≤◌}
-use mathlib.Core.Path.{◌≡◌, refl, sym, ◌∙◌}
-use native.Mathlib.Omega.{arith}
-use borrow.Author.Rules.{rules}
+use mathlib.Core.Path.{◌≡◌}
 use lib.ListN.{length, drop}
 use Rattle.octets.specs.Reader as rules
-use Rattle.octets.proofs.Marks.{place_here, place-past}
 use Rattle.octets.proofs.cursor.place_from.Given as goal
 
 abbrev pub invariant-loop-i : goal.invariant-loop-i

@@ -1,10 +1,6 @@
 -- `stands_at` says whether a mark stands at a place: an empty one always, another where there is room and the bytes are the same.
-use Prim.Native.Nat.{◌+◌, ◌≤◌}
-use native.Mathlib.Omega.{arith}
-use lib.ListN.{length}
-use Rattle.octets.proofs.Reading.{roomy, tight}
-use Rattle.octets.proofs.Marks.{stands-none, stands-cut, stands_by}
-use borrow.Author.Rules.{rules}
+use Rattle.octets.proofs.Reading.{tight}
+use Rattle.octets.proofs.Marks.{stands-cut, stands_by}
 use Rattle.octets.proofs.cursor.stands_at.Goals as goal
 
 pub returns-then-has : goal.returns-then-has

@@ -1,10 +1,8 @@
 -- `four_bytes` reads by halves.
-use mathlib.Core.Path.{refl, sym, ◌∙◌}
+use mathlib.Core.Path.{refl}
 use native.Mathlib.Omega.{arith}
-use lib.Seq.{length-take-le}
 use Rattle.octets.specs.declared.Endianness.TheVariants.{Little, Big}
-use Rattle.octets.proofs.Digits.{halves_read, halves_below}
-use borrow.Author.Rules.{rules}
+use Rattle.octets.proofs.Digits.{halves_below}
 use Rattle.octets.proofs.number.four_bytes.Goals as goal
 
 pub joined-requires : goal.joined-requires

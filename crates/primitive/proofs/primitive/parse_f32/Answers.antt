@@ -3,7 +3,6 @@ use mathlib.Core.Path.{◌∙◌, sym, ap}
 use lib.Ieee.{binary32}
 use Rattle.primitive.specs.Primitive.{float, paper_u32}
 use Rattle.primitive.proofs.Values.{refused_too, read_too, nan_told, may_be_made, float-told}
-use borrow.Author.Rules.{rules}
 use Rattle.primitive.proofs.primitive.parse_f32.Goals as goal
 
 pub returns-in_default : goal.returns-in_default

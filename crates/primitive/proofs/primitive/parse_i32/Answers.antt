@@ -5,7 +5,6 @@ use mir.ValLaws.{to_z-of_z}
 use Rattle.octets.specs.Paper.Paper.{integer}
 use Rattle.primitive.specs.Primitive.{signed, paper_u32}
 use Rattle.primitive.proofs.Values.{refused_too, read_too}
-use borrow.Author.Rules.{rules}
 use Rattle.primitive.proofs.primitive.parse_i32.Goals as goal
 
 pub returns-in_default : goal.returns-in_default

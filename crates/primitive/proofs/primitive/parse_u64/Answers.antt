@@ -3,7 +3,6 @@ use mathlib.Core.Path.{◌∙◌, sym, ap}
 use Rattle.octets.specs.Cursor.{numbered}
 use Rattle.primitive.specs.Primitive.{unsigned}
 use Rattle.primitive.proofs.Values.{too_short, value_read}
-use borrow.Author.Rules.{rules}
 use Rattle.primitive.proofs.primitive.parse_u64.Goals as goal
 
 pub returns-in-Is : goal.returns-in-Is

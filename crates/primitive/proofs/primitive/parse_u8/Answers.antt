@@ -3,7 +3,6 @@ use mathlib.Core.Path.{◌∙◌, sym, ap}
 use Rattle.octets.specs.Cursor.{numbered}
 use Rattle.primitive.specs.Primitive.{unsigned}
 use Rattle.primitive.proofs.Values.{too_short, value_read, value-fits}
-use borrow.Author.Rules.{rules}
 use Rattle.primitive.proofs.primitive.parse_u8.Goals as goal
 
 pub overflow_cast-result : goal.overflow_cast-result

@@ -5,7 +5,6 @@ use Rattle.runtime.specs.Addresses.{has_code, code_as}
 use Rattle.block.specs.declared.About.{About}
 use Rattle.block.specs.Kinds.{kind_of}
 use Rattle.block.proofs.Lossless.{whole_kind}
-use borrow.Author.Rules.{rules}
 use Rattle.runtime.proofs.runtime.code.Goals as goal
 
 pub returns-then-about : goal.returns-then-about

@@ -1,12 +1,10 @@
 -- `get_ptr`: what is left of the search from a row on is all of it.
 use mathlib.Core.Path.{◌≡◌}
-use native.Mathlib.Omega.{arith}
-use borrow.Author.Rules.{rules}
 use Prim.Native.Nat.{◌-◌, ◌/◌, ◌≤◌}
 use lib.ListN.{length}
 use Rattle.block.specs.Rows.{per_row}
 use Rattle.runtime.specs.Addresses.{seek, lookup_as}
-use Rattle.runtime.proofs.Views.{at_row, lookup_short, lookup_null, lookup_starts, lookup_found, lookup_on, lookup_missing}
+use Rattle.runtime.proofs.Views.{at_row}
 use Rattle.runtime.proofs.runtime.get_ptr.Given as goal
 
 abbrev pub invariant-loop-row : goal.invariant-loop-row

@@ -2,7 +2,6 @@
 use mathlib.Core.Path.{sym, ◌∙◌, ap}
 use Rattle.octets.specs.Cursor.{moved}
 use Rattle.runtime.proofs.Views.{view-no_row, view-there, view-not_there}
-use borrow.Author.Rules.{rules}
 use Rattle.runtime.proofs.runtime.view.Goals as goal
 
 pub returns-in-To : goal.returns-in-To

@@ -1,6 +1,5 @@
 -- `view_part`: the row, and its part.
 use Rattle.runtime.proofs.Views.{part-no_row, part-there}
-use borrow.Author.Rules.{rules}
 use Rattle.runtime.proofs.runtime.view_part.Goals as goal
 
 pub returns-then-row-table : goal.returns-then-row-table

@@ -1,14 +1,11 @@
 -- `step`: 13, the header, and what is at the boundary.
 use mathlib.Core.Path.{refl, sym, ◌∙◌, ap}
-use native.Mathlib.Omega.{arith}
 use mathlib.Core.Bool.{Bool}
 use Prim.Native.Nat.{◌+◌}
 use Rattle.header.specs.Header.{header_bytes, paper_header}
 use Rattle.walker.specs.Walker.{step_by, end_mark}
 use Rattle.blend.proofs.Answers.{header-found, refused-told}
-use Rattle.blend.proofs.Chains.{mark-room}
 use Rattle.walker.proofs.Steps.{step_past, step-refused, step_over_lem, step_told_lem}
-use borrow.Author.Rules.{rules}
 use Rattle.walker.proofs.Place.step.Goals as goal
 
 pub returns-then-file-self : goal.returns-then-file-self

@@ -1,6 +1,5 @@
 -- `bytes_needed`: the row count, the rows, and then the form.
 use Rattle.writable.proofs.Answers.{needed_short, needed_stops, needed_other, needed_dna}
-use borrow.Author.Rules.{rules}
 use Rattle.writable.proofs.writable.bytes_needed.Goals as goal
 
 pub returns-then-table-rows : goal.returns-then-table-rows

@@ -1,15 +1,9 @@
 -- `file_length`: the sum so far and what is left make the whole.
 use Prim.Native.Nat.{◌+◌, ◌-◌, ◌/◌, ◌^◌, ◌≤◌}
-use mathlib.Core.List.{List}
-use Rattle.block.specs.declared.Row.{Row}
-use mathlib.Core.Path.{◌≡◌, sym, ◌∙◌, ap}
-use native.Mathlib.Omega.{arith}
+use mathlib.Core.Path.{◌≡◌}
 use lib.ListN.{length}
-use borrow.Author.Rules.{rules}
 use Rattle.block.specs.Rows.{per_row, rows_spelt}
 use Rattle.writable.specs.Writable.{blocks_length}
-use Rattle.writable.proofs.Judging.{row_known, rows_all}
-use Rattle.writable.proofs.Fitting.{header_at-most, sum_over, sum_more, sum-ends}
 use Rattle.writable.proofs.writable.file_length.Given as goal
 
 abbrev pub invariant-loop-row : goal.invariant-loop-row

@@ -1,16 +1,9 @@
 -- `first_unfit`: the first among the rows that are left is the first of all.
 use Prim.Native.Nat.{◌-◌, ◌/◌, ◌≤◌}
-use mathlib.Core.List.{List}
-use Rattle.block.specs.declared.Row.{Row}
-use mathlib.Core.Path.{◌≡◌, sym, ◌∙◌, ap}
-use native.Mathlib.Omega.{arith}
+use mathlib.Core.Path.{◌≡◌}
 use lib.ListN.{length}
-use borrow.Author.Rules.{rules}
-use borrow.Author.Tests.{not-true, not-false}
 use Rattle.block.specs.Rows.{per_row, rows_spelt}
 use Rattle.writable.specs.Writable.{first_unfit}
-use Rattle.writable.proofs.Judging.{row_known, rows_all}
-use Rattle.writable.proofs.Fitting.{unfit-here, unfit_later, unfit-none}
 use Rattle.writable.proofs.writable.first_unfit.Given as goal
 
 abbrev pub invariant-loop-row : goal.invariant-loop-row

@@ -1,8 +1,6 @@
 -- `fitted`: the header, the rows, and then the length.
 use mathlib.Core.Path.{sym, ◌∙◌}
-use borrow.Author.Tests.{not-true, not-false}
 use Rattle.writable.proofs.Fitting.{no-room-header, no-room-row, too_long, long-enough}
-use borrow.Author.Rules.{rules}
 use Rattle.writable.proofs.writable.fitted.Goals as goal
 
 pub returns-then-not-header_fits : goal.returns-then-not-header_fits

@@ -3,7 +3,6 @@ use mathlib.Core.Path.{sym, ◌∙◌, ap}
 use Rattle.octets.specs.Cursor.{moved}
 use Rattle.octets.proofs.Parts.{skip-room, skip-short}
 use Rattle.writable.proofs.Judging.{null-judged, outside-judged, inside-judged}
-use borrow.Author.Rules.{rules}
 use Rattle.writable.proofs.writable.judge.Goals as goal
 
 pub returns-then-r-eq0 : goal.returns-then-r-eq0

@@ -1,7 +1,6 @@
 -- `judge_code`: by what follows from the kind.
 use Rattle.block.proofs.Lossless.{whole_kind}
 use Rattle.writable.proofs.Judging.{never_judged, alone_judged, alone_refused, always_other, dna-judged, dna-refused}
-use borrow.Author.Rules.{rules}
 use Rattle.writable.proofs.writable.judge_code.Goals as goal
 
 pub returns-in-Never : goal.returns-in-Never

@@ -1,12 +1,8 @@
 -- `judge_rows`: what is left of the rows decides as all of them do.
-use Prim.Native.Nat.{◌-◌, ◌/◌, ◌≤◌}
 use mathlib.Core.List.{List}
 use Rattle.block.specs.declared.Row.{Row}
-use mathlib.Core.Path.{◌≡◌, sym, ◌∙◌, ap}
+use mathlib.Core.Path.{sym, ◌∙◌, ap}
 use native.Mathlib.Omega.{arith}
-use lib.ListN.{length}
-use borrow.Author.Rules.{rules}
-use Rattle.block.specs.Rows.{per_row, rows_spelt}
 use Rattle.blend.specs.declared.blend.Last.{Last}
 use Rattle.writable.specs.Writable.{all_judged}
 use Rattle.writable.proofs.Judging.{row_known, rows_all, judging_stops, judging_goes, judging_ends}

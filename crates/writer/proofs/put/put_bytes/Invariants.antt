@@ -1,13 +1,7 @@
 -- `put_bytes`: a byte a turn, up to the last.
 use Prim.Native.Nat.{◌+◌, ◌-◌, ◌≤◌}
-use mathlib.Core.List.{[], ◌∷◌}
-use mathlib.Core.Path.{◌≡◌, refl}
-use native.Mathlib.Numerals.{add-one}
-use native.Mathlib.Omega.{arith}
-use lib.ListN.{length, get_or, drop, length-drop, drop_of_length-le}
-use lib.Seq.{drop-cons}
-use Rattle.octets.specs.Helpers.{put}
-use Rattle.octets.proofs.Filling.{Storing, storing_starts, storing_ends, row-stored}
+use lib.ListN.{length, drop}
+use Rattle.octets.proofs.Filling.{Storing}
 use Rattle.writer.proofs.put.put_bytes.Given as goal
 
 abbrev pub invariant-loop-i : goal.invariant-loop-i

@@ -1,6 +1,5 @@
 -- `put_eight`: its halves, one after the other.
 use mathlib.Core.Path.{refl}
-use borrow.Author.Rules.{rules}
 use Rattle.writer.proofs.Storing.{put_halves}
 use Rattle.writer.proofs.put.put_eight.Goals as goal
 

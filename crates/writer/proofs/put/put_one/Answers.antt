@@ -6,7 +6,6 @@ use Rattle.octets.specs.declared.Endianness.{Endianness}
 use Rattle.octets.specs.declared.Endianness.TheVariants.{Little, Big}
 use Rattle.octets.specs.Helpers.{put}
 use Rattle.octets.specs.Number.{bytes_of}
-use borrow.Author.Rules.{rules}
 use Rattle.writer.proofs.put.put_one.Goals as goal
 
 one_byte : (e : Endianness) (n : ℕ) → bytes_of e 1 n ≡ n % 256 ∷ []

@@ -1,6 +1,5 @@
 -- `put_two`: its halves, one after the other.
 use mathlib.Core.Path.{refl}
-use borrow.Author.Rules.{rules}
 use Rattle.writer.proofs.Storing.{put_halves}
 use Rattle.writer.proofs.put.put_two.Goals as goal
 

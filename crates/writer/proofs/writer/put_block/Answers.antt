@@ -6,7 +6,6 @@ use Rattle.octets.proofs.Parts.{part-long}
 use Rattle.block.specs.Spelling.{block_header_out}
 use Rattle.block.proofs.BlockHeadersOut.{block_header_out-length}
 use Rattle.writer.proofs.Storing.{put_both}
-use borrow.Author.Rules.{rules}
 use Rattle.writer.proofs.writer.put_block.Goals as goal
 
 pub returns : goal.returns

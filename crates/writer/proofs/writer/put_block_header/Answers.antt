@@ -1,11 +1,8 @@
 -- `put_block_header`: the code, and then the numbers of its edition.
-use mathlib.Core.Path.{refl}
 use native.Mathlib.Omega.{arith}
 use Rattle.octets.specs.declared.Endianness.TheVariants.{Big}
-use Rattle.header.proofs.Lengths.{legacy-length, new-length}
 use Rattle.block.specs.Spelling.{block_header_out}
 use Rattle.writer.proofs.Storing.{put-number}
-use borrow.Author.Rules.{rules}
 use Rattle.writer.proofs.writer.put_block_header.Goals as goal
 
 pub returns-in-Legacy : goal.returns-in-Legacy

@@ -1,18 +1,10 @@
 -- `put_blocks`: a block a turn, up to the last row.
-use Prim.Native.Nat.{◌+◌, ◌-◌, ◌/◌, ◌≤◌}
-use mathlib.Core.Path.{◌≡◌, subst}
-use mathlib.Core.List.{List, ◌++◌}
-use native.Mathlib.Omega.{arith}
+use Prim.Native.Nat.{◌-◌, ◌/◌, ◌≤◌}
 use lib.ListN.{length}
-use borrow.Author.Rules.{rules}
-use Rattle.octets.proofs.Filling.{Storing, storing_starts, storing_ends, storing_ends-at, row_fits_lem, row-stored}
-use Rattle.block.specs.declared.Row.{Row}
-use Rattle.block.specs.Rows.{per_row, payload_of, rows_spelt}
-use Rattle.block.specs.Spelling.{block_header_out}
-use Rattle.writable.proofs.Judging.{row_known, rows_all}
+use Rattle.octets.proofs.Filling.{Storing}
+use Rattle.block.specs.Rows.{per_row, rows_spelt}
 use Rattle.writer.specs.Helpers.{Inside}
 use Rattle.writer.specs.Writer.{blocks_out}
-use Rattle.writer.proofs.Files.{block-out-length, blocks_more, blocks-none, inside_more}
 use Rattle.writer.proofs.writer.put_blocks.Given as goal
 
 abbrev pub invariant-loop-row : goal.invariant-loop-row

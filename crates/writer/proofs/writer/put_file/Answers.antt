@@ -13,7 +13,6 @@ use Rattle.block.specs.Rows.{rows_spelt}
 use Rattle.writer.specs.Writer.{blocks_out, file_out}
 use Rattle.writer.proofs.Storing.{put_both}
 use Rattle.writer.proofs.Files.{file-parts}
-use borrow.Author.Rules.{rules}
 use Rattle.writer.proofs.writer.put_file.Goals as goal
 
 pub put_header-blocks-requires : goal.put_header-blocks-requires

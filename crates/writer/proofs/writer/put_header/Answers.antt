@@ -1,10 +1,8 @@
 -- `put_header`: the magic, and then the parts of its edition, one after the other.
-use mathlib.Core.Path.{refl, ap}
+use mathlib.Core.Path.{refl}
 use native.Mathlib.Omega.{arith}
-use Rattle.header.specs.Header.{header_length}
 use Rattle.header.specs.HeaderOut.{header_out}
 use Rattle.writer.proofs.Storing.{put-none, put_both, put-mark}
-use borrow.Author.Rules.{rules}
 use Rattle.writer.proofs.writer.put_header.Goals as goal
 
 pub returns-in-Legacy : goal.returns-in-Legacy

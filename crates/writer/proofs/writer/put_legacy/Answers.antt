@@ -2,7 +2,6 @@
 use native.Mathlib.Omega.{arith}
 use Rattle.octets.specs.PointerSize.{pointer_bytes}
 use Rattle.writer.proofs.Storing.{put-none, put-number}
-use borrow.Author.Rules.{rules}
 use Rattle.writer.proofs.writer.put_legacy.Goals as goal
 
 pub returns : goal.returns

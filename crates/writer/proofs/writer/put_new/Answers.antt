@@ -3,7 +3,6 @@ use native.Mathlib.Omega.{arith}
 use Rattle.octets.specs.declared.Endianness.TheVariants.{Little}
 use Rattle.octets.specs.PointerSize.{pointer_bytes}
 use Rattle.writer.proofs.Storing.{put-none, put-number}
-use borrow.Author.Rules.{rules}
 use Rattle.writer.proofs.writer.put_new.Goals as goal
 
 pub returns : goal.returns

@@ -2,9 +2,7 @@
 use Prim.Native.Nat.{◌+◌}
 use mathlib.Core.Path.{◌≡◌, refl}
 use native.Mathlib.Omega.{arith}
-use lib.ListN.{length-set}
 use Rattle.octets.specs.Helpers.{put}
-use borrow.Author.Rules.{rules}
 use Rattle.writer.proofs.writer.put_three.Goals as goal
 
 pub returns : goal.returns

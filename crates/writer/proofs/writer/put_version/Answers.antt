@@ -3,13 +3,9 @@ use Prim.Native.Nat.{ℕ, ◌+◌, ◌/◌, ◌%◌}
 use mathlib.Core.List.{[], ◌∷◌, ◌++◌}
 use mathlib.Core.Path.{◌≡◌, refl, ◌∙◌, ap}
 use native.Mathlib.Omega.{arith}
-use lib.ListN.{length}
 use Rattle.octets.specs.Helpers.{put}
-use Rattle.octets.proofs.Filling.{put-length}
 use Rattle.header.specs.HeaderOut.{decimals, version_number}
-use Rattle.writer.specs.Helpers.{version_digits}
 use Rattle.writer.proofs.Storing.{put_both}
-use borrow.Author.Rules.{rules}
 use Rattle.writer.proofs.writer.put_version.Goals as goal
 
 pub returns-in-New : goal.returns-in-New

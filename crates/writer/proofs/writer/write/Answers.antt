@@ -1,11 +1,10 @@
 -- `write`: what is needed, the room for it, and then the file.
-use mathlib.Core.Path.{refl, sym, ◌∙◌}
+use mathlib.Core.Path.{sym, ◌∙◌}
 use native.Mathlib.Omega.{arith}
 use Rattle.octets.proofs.Filling.{put-over}
 use Rattle.block.specs.Rows.{rows_spelt}
 use Rattle.writer.specs.Writer.{file_out}
-use Rattle.writer.proofs.Files.{write-refused, write-no-room, write-short, write-written, rows-there, rows_inside, file-long}
-use borrow.Author.Rules.{rules}
+use Rattle.writer.proofs.Files.{write-written, rows-there, rows_inside, file-long}
 use Rattle.writer.proofs.writer.write.Goals as goal
 
 pub put_file-requires : goal.put_file-requires

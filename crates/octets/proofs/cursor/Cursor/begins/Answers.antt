@@ -1,11 +1,6 @@
 -- `begins` goes past a mark where it stands, and stays where it does not.
-use Prim.Native.Nat.{◌-◌, ◌≤◌}
 use mathlib.Core.Path.{sym, ◌∙◌}
-use native.Mathlib.Omega.{arith}
-use lib.ListN.{length}
 use Rattle.octets.proofs.Reading.{begun_in, begun-out}
-use Rattle.octets.proofs.Marks.{stands-room}
-use borrow.Author.Rules.{rules}
 use Rattle.octets.proofs.cursor.Cursor.begins.Goals as goal
 
 pub returns-then-stands_at : goal.returns-then-stands_at

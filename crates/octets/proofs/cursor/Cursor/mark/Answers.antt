@@ -1,11 +1,6 @@
 -- `mark` goes past a mark, and tells a short read from a wrong mark.
-use Prim.Native.Nat.{◌+◌, ◌≤◌}
 use mathlib.Core.Path.{sym, ◌∙◌}
-use native.Mathlib.Omega.{arith}
-use borrow.Author.Tests.{not-true, not-false}
-use lib.ListN.{length}
 use Rattle.octets.proofs.Reading.{roomy, tight, tagged, strayed, bytes-out}
-use borrow.Author.Rules.{rules}
 use Rattle.octets.proofs.cursor.Cursor.mark.Goals as goal
 
 pub returns-then-not-has : goal.returns-then-not-has

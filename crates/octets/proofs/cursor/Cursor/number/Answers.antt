@@ -1,11 +1,7 @@
 -- `number` reads a number of a width and an order at the place.
-use Prim.Native.Nat.{◌+◌, ◌≤◌}
 use mathlib.Core.Path.{sym, ◌∙◌}
-use native.Mathlib.Omega.{arith}
 use borrow.Author.Tests.{leb-true, leb-false}
-use lib.ListN.{length}
 use Rattle.octets.proofs.Reading.{numbered_in, numbered-out}
-use borrow.Author.Rules.{rules}
 use Rattle.octets.proofs.cursor.Cursor.number.Goals as goal
 
 pub returns-then-has : goal.returns-then-has

@@ -1,9 +1,5 @@
 -- `part` hands out the n bytes at the place, or none.
-use Prim.Native.Nat.{◌+◌, ◌≤◌}
-use native.Mathlib.Omega.{arith}
-use lib.ListN.{length}
 use Rattle.octets.proofs.Reading.{roomy, tight, part_in, part_out}
-use borrow.Author.Rules.{rules}
 use Rattle.octets.proofs.cursor.Cursor.part.Goals as goal
 
 pub returns-then-has : goal.returns-then-has

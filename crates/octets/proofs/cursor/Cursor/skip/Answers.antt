@@ -1,11 +1,7 @@
 -- `skip` moves past n bytes where they are there.
-use Prim.Native.Nat.{◌+◌, ◌≤◌}
 use mathlib.Core.Path.{sym, ◌∙◌}
-use native.Mathlib.Omega.{arith}
 use borrow.Author.Tests.{leb-true, leb-false}
-use lib.ListN.{length}
 use Rattle.octets.proofs.Reading.{skipped, skip-out}
-use borrow.Author.Rules.{rules}
 use Rattle.octets.proofs.cursor.Cursor.skip.Goals as goal
 
 pub returns-then-has : goal.returns-then-has

@@ -1,6 +1,5 @@
 -- `until` goes past the bytes up to a byte, and that byte.
 use Rattle.octets.proofs.Reading.{counted_in, counted-out, counted-past}
-use borrow.Author.Rules.{rules}
 use Rattle.octets.proofs.cursor.Cursor.until.Goals as goal
 
 pub returns-then-s-at : goal.returns-then-s-at
