@@ -203,8 +203,7 @@ fn order_of(n: u64) -> Endianness
 }
 
 /// A file's header in numbers.
-#[unsafe(no_mangle)]
-pub extern "C" fn blend_header(file: &[u8]) -> BlendHeader
+pub fn blend_header(file: &[u8]) -> BlendHeader
     ensures { calls.blend_header file.now result }
 {
     match header(file) {
@@ -287,8 +286,7 @@ fn read_refused(refusal: u64, fault_at: u64, needed: u64) -> BlendRead
 }
 
 /// Reads a file into a row table.
-#[unsafe(no_mangle)]
-pub extern "C" fn blend_read(file: &[u8], table: &mut [u64]) -> BlendRead
+pub fn blend_read(file: &[u8], table: &mut [u64]) -> BlendRead
     ensures { calls.blend_read file.now table.old result table.new }
 {
     match blend(file, table) {
@@ -362,8 +360,7 @@ fn step_out(step: Step) -> BlendStep
 }
 
 /// One step of a walk: the block at a place, the end, or the refusal, and the place that is handed back.
-#[unsafe(no_mangle)]
-pub extern "C" fn blend_step(file: &[u8], at: usize, dna: u64) -> BlendStep
+pub fn blend_step(file: &[u8], at: usize, dna: u64) -> BlendStep
     ensures { calls.blend_step file.now at dna result }
 {
     let place = Place {
@@ -413,8 +410,7 @@ fn catalogue_out(answer: DnaTables) -> BlendCatalogue
 }
 
 /// Reads a DNA1's payload into four tables.
-#[unsafe(no_mangle)]
-pub extern "C" fn blend_catalogue(
+pub fn blend_catalogue(
     payload: &[u8],
     order: u64,
     names: &mut [u64],
@@ -513,8 +509,7 @@ fn field_out(d: Declarator) -> BlendField
 }
 
 /// A field's declarator in numbers.
-#[unsafe(no_mangle)]
-pub extern "C" fn blend_field(name: &[u8], dimensions: &mut [u64]) -> BlendField
+pub fn blend_field(name: &[u8], dimensions: &mut [u64]) -> BlendField
     ensures { calls.blend_field name.now dimensions.old result dimensions.new }
 {
     match parse_field(name, dimensions) {
@@ -586,8 +581,7 @@ fn size_of(bytes: u64) -> PointerSize
 }
 
 /// How many bytes a field takes whose name blend_field told.
-#[unsafe(no_mangle)]
-pub extern "C" fn blend_width(field: BlendField, size: u64, pointer_bytes: u64) -> BlendValue
+pub fn blend_width(field: BlendField, size: u64, pointer_bytes: u64) -> BlendValue
     ensures { calls.blend_width field size pointer_bytes result }
 {
     if field.refusal != 0 {
@@ -609,8 +603,7 @@ pub extern "C" fn blend_width(field: BlendField, size: u64, pointer_bytes: u64) 
 }
 
 /// Where a row's payload lies in the file.
-#[unsafe(no_mangle)]
-pub extern "C" fn blend_view(file: &[u8], table: &[u64], row: usize) -> BlendView
+pub fn blend_view(file: &[u8], table: &[u64], row: usize) -> BlendView
     ensures { calls.blend_view file.now table.now row result }
 {
     if row < table.len() / Row::NUMBERS {
@@ -636,8 +629,7 @@ pub extern "C" fn blend_view(file: &[u8], table: &[u64], row: usize) -> BlendVie
 }
 
 /// The row that an address points to.
-#[unsafe(no_mangle)]
-pub extern "C" fn blend_lookup(table: &[u64], rows: usize, address: u64) -> BlendPointer
+pub fn blend_lookup(table: &[u64], rows: usize, address: u64) -> BlendPointer
     ensures { calls.blend_lookup table.now rows address result }
 {
     match get_ptr(table, rows, address) {
@@ -687,8 +679,7 @@ fn index_out(answer: Indexed) -> BlendIndex
 }
 
 /// Chains the rows of a table by their addresses.
-#[unsafe(no_mangle)]
-pub extern "C" fn blend_index(
+pub fn blend_index(
     table: &[u64],
     rows: usize,
     buckets: usize,
@@ -742,8 +733,7 @@ fn found_out(answer: IndexPointer) -> BlendFound
 }
 
 /// The row that an address points to, by an index.
-#[unsafe(no_mangle)]
-pub extern "C" fn blend_find(
+pub fn blend_find(
     table: &[u64],
     rows: usize,
     buckets: usize,
@@ -844,8 +834,7 @@ fn written_out(answer: WriteAnswer) -> BlendWritten
 }
 
 /// Writes a file of a header, rows and their payloads.
-#[unsafe(no_mangle)]
-pub extern "C" fn blend_write(
+pub fn blend_write(
     edition: u64,
     pointer_bytes: u64,
     order: u64,
@@ -864,8 +853,7 @@ pub extern "C" fn blend_write(
 }
 
 /// The unsigned number of one byte that a slice begins with.
-#[unsafe(no_mangle)]
-pub extern "C" fn blend_u8(slice: &[u8], order: u64) -> BlendValue
+pub fn blend_u8(slice: &[u8], order: u64) -> BlendValue
     ensures { calls.blend_u8 slice.now order result }
 {
     match parse_u8(slice, order_of(order)) {
@@ -881,8 +869,7 @@ pub extern "C" fn blend_u8(slice: &[u8], order: u64) -> BlendValue
 }
 
 /// The unsigned number of two bytes that a slice begins with.
-#[unsafe(no_mangle)]
-pub extern "C" fn blend_u16(slice: &[u8], order: u64) -> BlendValue
+pub fn blend_u16(slice: &[u8], order: u64) -> BlendValue
     ensures { calls.blend_u16 slice.now order result }
 {
     match parse_u16(slice, order_of(order)) {
@@ -898,8 +885,7 @@ pub extern "C" fn blend_u16(slice: &[u8], order: u64) -> BlendValue
 }
 
 /// The unsigned number of four bytes that a slice begins with.
-#[unsafe(no_mangle)]
-pub extern "C" fn blend_u32(slice: &[u8], order: u64) -> BlendValue
+pub fn blend_u32(slice: &[u8], order: u64) -> BlendValue
     ensures { calls.blend_u32 slice.now order result }
 {
     match parse_u32(slice, order_of(order)) {
@@ -915,8 +901,7 @@ pub extern "C" fn blend_u32(slice: &[u8], order: u64) -> BlendValue
 }
 
 /// The unsigned number of eight bytes that a slice begins with.
-#[unsafe(no_mangle)]
-pub extern "C" fn blend_u64(slice: &[u8], order: u64) -> BlendValue
+pub fn blend_u64(slice: &[u8], order: u64) -> BlendValue
     ensures { calls.blend_u64 slice.now order result }
 {
     match parse_u64(slice, order_of(order)) {
