@@ -3,9 +3,10 @@
 
 use blend::blend::{BlendAnswer, RawBlend, blend};
 use block::Row;
-use octets::{Endianness, Fault, PointerSize};
 use header::{FileFormat, Header};
-use libc::{STDIN_FILENO, STDOUT_FILENO};
+use octets::{Endianness, Fault, PointerSize};
+use std::io;
+use std::io::Read;
 
 // How long an input may be. The buffer has a byte more, so that a longer one is told from one that just fits.
 const LONGEST: usize = 65536;
@@ -13,13 +14,13 @@ const LONGEST: usize = 65536;
 // 512 rows.
 const NUMBERS: usize = 512 * Row::NUMBERS;
 
-fn text(s: &[u8]) {
-    io::write_all(STDOUT_FILENO, s);
+// What cannot be written is passed over.
+fn text(rt: &impl Print, s: &str) {
+    let _ = print!(rt; "{s}");
 }
 
-fn number(label: &[u8], n: u64) {
-    text(label);
-    io::print_decimal(STDOUT_FILENO, n);
+fn number(rt: &impl Print, label: &str, n: u64) {
+    let _ = print!(rt; "{label}{n}");
 }
 
 // One of a row's numbers; the rows that are listed are there.
@@ -32,118 +33,113 @@ fn cell(table: &[u64], row: usize, i: usize) -> u64 {
     0
 }
 
-fn header_line(h: Header) {
+fn header_line(rt: &impl Print, h: Header) {
     let format = h.format;
     let size = h.pointer_size;
     let order = h.endianness;
     let version = h.version;
     match format {
-        FileFormat::Legacy => text(b"blend legacy"),
-        FileFormat::New => text(b"blend new"),
+        FileFormat::Legacy => text(rt, "blend legacy"),
+        FileFormat::New => text(rt, "blend new"),
     }
     match size {
-        PointerSize::Bits32 => text(b" 32"),
-        PointerSize::Bits64 => text(b" 64"),
+        PointerSize::Bits32 => text(rt, " 32"),
+        PointerSize::Bits64 => text(rt, " 64"),
     }
     match order {
-        Endianness::Little => text(b" little"),
-        Endianness::Big => text(b" big"),
+        Endianness::Little => text(rt, " little"),
+        Endianness::Big => text(rt, " big"),
     }
-    number(b" ", version.major as u64);
-    number(b" ", version.minor as u64);
-    text(b"\n");
+    number(rt, " ", version.major as u64);
+    number(rt, " ", version.minor as u64);
+    text(rt, "\n");
 }
 
-fn block_line(table: &[u64], row: usize) {
-    number(b"block ", row as u64);
-    text(b" ");
-    io::print_hex(STDOUT_FILENO, cell(table, row, Row::CODE), 8);
-    number(b" ", cell(table, row, Row::ADDRESS));
-    number(b" ", cell(table, row, Row::INDEX));
-    number(b" ", cell(table, row, Row::COUNT));
-    number(b" ", cell(table, row, Row::AT));
-    number(b" ", cell(table, row, Row::PAYLOAD));
-    number(b" ", cell(table, row, Row::LEN));
-    text(b"\n");
+fn block_line(rt: &impl Print, table: &[u64], row: usize) {
+    let code = cell(table, row, Row::CODE);
+    let _ = print!(rt; "block {row} {code:08x}");
+    number(rt, " ", cell(table, row, Row::ADDRESS));
+    number(rt, " ", cell(table, row, Row::INDEX));
+    number(rt, " ", cell(table, row, Row::COUNT));
+    number(rt, " ", cell(table, row, Row::AT));
+    number(rt, " ", cell(table, row, Row::PAYLOAD));
+    number(rt, " ", cell(table, row, Row::LEN));
+    text(rt, "\n");
 }
 
-fn block_lines(table: &[u64], rows: usize) {
-    let mut row = 0;
-    while row < rows {
-        block_line(table, row);
-        row += 1;
+fn block_lines(rt: &impl Print, table: &[u64], rows: usize) {
+    for row in 0..rows {
+        block_line(rt, table, row);
     }
 }
 
-fn lines(b: RawBlend, table: &[u64]) {
+fn lines(rt: &impl Print, b: RawBlend, table: &[u64]) {
     let h = b.header;
     let dna = b.dna;
-    header_line(h);
-    block_lines(table, b.rows);
-    number(b"dna ", dna.names);
-    number(b" ", dna.types);
-    number(b" ", dna.structs);
-    number(b" ", dna.fields);
-    number(b"\nend ", b.end as u64);
-    text(b"\n");
+    header_line(rt, h);
+    block_lines(rt, table, b.rows);
+    number(rt, "dna ", dna.names);
+    number(rt, " ", dna.types);
+    number(rt, " ", dna.structs);
+    number(rt, " ", dna.fields);
+    number(rt, "\nend ", b.end as u64);
+    text(rt, "\n");
 }
 
 // A refusal's number and, of 16 and 17, the offset that it carries.
-fn refused_line(f: Fault) {
-    number(b"refused ", f.refusal());
+fn refused_line(rt: &impl Print, f: Fault) {
+    number(rt, "refused ", f.refusal());
     match f {
-        Fault::Refusal(_) => text(b"\n"),
+        Fault::Refusal(_) => text(rt, "\n"),
         _ => {
-            number(b" ", f.place() as u64);
-            text(b"\n");
+            number(rt, " ", f.place() as u64);
+            text(rt, "\n");
         }
     }
 }
 
-fn list(file: &[u8]) {
+fn list(rt: &impl Print, file: &[u8]) {
     let mut table = [0u64; NUMBERS];
     match blend(file, &mut table) {
-        BlendAnswer::Is(b) => lines(b, &table),
-        BlendAnswer::Refused(f) => refused_line(f),
+        BlendAnswer::Is(b) => lines(rt, b, &table),
+        BlendAnswer::Refused(f) => refused_line(rt, f),
         BlendAnswer::TableTooShort(rows) => {
-            number(b"refused 7 ", rows as u64);
-            text(b"\n");
+            number(rt, "refused 7 ", rows as u64);
+            text(rt, "\n");
         }
     }
 }
 
-// What standard input has: so many bytes, more than the buffer holds, or something that cannot be read.
+// What standard input has: so many bytes, more than the buffer holds, or something that cannot be read, and why not.
 #[derive(Drop)]
 enum Input {
     Bytes(usize),
     TooLong,
-    Unread,
+    Unread(io::Error),
 }
 
 // Reads to the end of the input: a pipe hands out its bytes in parts.
-fn read(buffer: &mut [u8]) -> Input {
+fn read<R: Read>(input: &mut R, buffer: &mut [u8]) -> Input {
     let mut n = 0;
     while n < buffer.len() {
-        let got = libc::read(STDIN_FILENO, &mut buffer[n..]);
-        if got < 0 {
-            return Input::Unread;
+        match input.read(&mut buffer[n..]) {
+            Err(e) => return Input::Unread(e),
+            Ok(0) => return Input::Bytes(n),
+            Ok(more) => n += more,
         }
-        let more = io::count(got, &buffer[n..]);
-        if more == 0 {
-            return Input::Bytes(n);
-        }
-        n += more;
     }
     Input::TooLong
 }
 
-fn main() {
+fn main(rt: HostRuntime) {
     let mut buffer = [0u8; LONGEST + 1];
-    match read(&mut buffer) {
+    match read(&mut rt.stdin(), &mut buffer) {
         Input::Bytes(n) => if n <= LONGEST {
-            list(&buffer[0..n]);
+            list(&rt, &buffer[0..n]);
         },
-        Input::TooLong => text(b"input too long\n"),
-        Input::Unread => os::fail(b"blendlist: standard input"),
+        Input::TooLong => text(&rt, "input too long\n"),
+        Input::Unread(e) => {
+            let _ = eprintln!(rt; "blendlist: standard input: {e}");
+        }
     }
 }

@@ -4,32 +4,36 @@
 
 mod catalogue;
 
+ghost use Rattle.std.specs.Prelude.{◌≤◌, length};
+
 use blend::blend::{BlendAnswer, blend};
 use block::Row;
-use octets::{Endianness, Fault, PointerSize};
 use dna::dna::DnaCounts;
 use header::blend::{HeaderAnswer, header};
 use header::{FileFormat, Header};
 use held::{find_in, step_from};
-use libc::STDOUT_FILENO;
+use octets::{Endianness, Fault, PointerSize};
 use runtime::runtime::{BlockCode, Pointer, ViewAnswer, code, get_ptr, view, view_part};
+use std::fs;
+use std::io::Read;
+use std::rt::Files;
 use walker::{Place, Step};
 
 // What a table holds before a call: as a code it is none, and as an offset it lies past every file.
 const FILL: u64 = 1000000007;
 
-fn text(s: &[u8]) {
-    io::write_all(STDOUT_FILENO, s);
+// What cannot be written is passed over.
+fn text(rt: &impl Print, s: &str) {
+    let _ = print!(rt; "{s}");
 }
 
-fn number(label: &[u8], n: u64) {
-    text(label);
-    io::print_decimal(STDOUT_FILENO, n);
+fn number(rt: &impl Print, label: &str, n: u64) {
+    let _ = print!(rt; "{label}{n}");
 }
 
 // At least so many hex digits.
-fn hex(n: u64, digits: usize) {
-    io::print_hex(STDOUT_FILENO, n, digits);
+fn hex(rt: &impl Print, n: u64, digits: usize) {
+    let _ = print!(rt; "{n:0digits$x}");
 }
 
 fn wide(b: u8) -> u64 {
@@ -49,214 +53,208 @@ fn cell(table: &[u64], row: usize, i: usize) -> u64 {
 // A number made of all bytes and of their order.
 fn sum(bytes: &[u8]) -> u64 {
     let mut all: u64 = 0;
-    let mut i = 0;
-    while i < bytes.len() {
-        all = (all * 31 + wide(bytes[i]) % 256) % 4294967296;
-        i += 1;
+    for b in bytes {
+        all = (all * 31 + wide(*b) % 256) % 4294967296;
     }
     all
 }
 
 // Whether a table's numbers from one on are those that it was filled with.
 fn kept(table: &[u64], from: usize) -> bool {
-    let mut i = from;
-    while i < table.len() {
+    for i in from..table.len() {
         if table[i] != FILL {
             return false;
         }
-        i += 1;
     }
     true
 }
 
-fn kept_line(table: &[u64], from: usize) {
-    number(b"table from ", from as u64);
+fn kept_line(rt: &impl Print, table: &[u64], from: usize) {
+    number(rt, "table from ", from as u64);
     if kept(table, from) {
-        text(b" unchanged\n");
+        text(rt, " unchanged\n");
     } else {
-        text(b" changed\n");
+        text(rt, " changed\n");
     }
 }
 
-fn header_numbers(h: Header) {
+fn header_numbers(rt: &impl Print, h: Header) {
     let format = h.format;
     let size = h.pointer_size;
     let order = h.endianness;
     let version = h.version;
     match format {
-        FileFormat::Legacy => text(b" legacy"),
-        FileFormat::New => text(b" new"),
+        FileFormat::Legacy => text(rt, " legacy"),
+        FileFormat::New => text(rt, " new"),
     }
     match size {
-        PointerSize::Bits32 => text(b" 32"),
-        PointerSize::Bits64 => text(b" 64"),
+        PointerSize::Bits32 => text(rt, " 32"),
+        PointerSize::Bits64 => text(rt, " 64"),
     }
     match order {
-        Endianness::Little => text(b" little"),
-        Endianness::Big => text(b" big"),
+        Endianness::Little => text(rt, " little"),
+        Endianness::Big => text(rt, " big"),
     }
-    number(b" ", version.major as u64);
-    number(b" ", version.minor as u64);
+    number(rt, " ", version.major as u64);
+    number(rt, " ", version.minor as u64);
 }
 
 // A refusal's number and, of 16 and 17, the offset that it carries.
-fn refused(f: Fault) {
-    number(b"refused ", f.refusal());
+fn refused(rt: &impl Print, f: Fault) {
+    number(rt, "refused ", f.refusal());
     match f {
-        Fault::Refusal(_) => text(b""),
-        _ => number(b" ", f.place() as u64),
+        Fault::Refusal(_) => text(rt, ""),
+        _ => number(rt, " ", f.place() as u64),
     }
 }
 
 // A header alone, with its length.
-fn header_line(file: &[u8]) {
-    text(b"header of \"");
-    text(file);
-    text(b"\": ");
+fn header_line(rt: &impl Print, file: &[u8]) {
+    text(rt, "header of \"");
+    let _ = rt.write_all(file);
+    text(rt, "\": ");
     match header(file) {
         HeaderAnswer::Is(h, len) => {
-            number(b"bytes ", len as u64);
-            header_numbers(h);
+            number(rt, "bytes ", len as u64);
+            header_numbers(rt, h);
         }
-        HeaderAnswer::Refused(f) => refused(f),
+        HeaderAnswer::Refused(f) => refused(rt, f),
     }
-    text(b"\n");
+    text(rt, "\n");
 }
 
-fn block_line(table: &[u64], row: usize) {
-    number(b"block ", row as u64);
-    text(b" ");
-    hex(cell(table, row, Row::CODE), 8);
-    number(b" ", cell(table, row, Row::ADDRESS));
-    number(b" ", cell(table, row, Row::INDEX));
-    number(b" ", cell(table, row, Row::COUNT));
-    number(b" ", cell(table, row, Row::AT));
-    number(b" ", cell(table, row, Row::PAYLOAD));
-    number(b" ", cell(table, row, Row::LEN));
-    text(b"\n");
+fn block_line(rt: &impl Print, table: &[u64], row: usize) {
+    number(rt, "block ", row as u64);
+    text(rt, " ");
+    hex(rt, cell(table, row, Row::CODE), 8);
+    number(rt, " ", cell(table, row, Row::ADDRESS));
+    number(rt, " ", cell(table, row, Row::INDEX));
+    number(rt, " ", cell(table, row, Row::COUNT));
+    number(rt, " ", cell(table, row, Row::AT));
+    number(rt, " ", cell(table, row, Row::PAYLOAD));
+    number(rt, " ", cell(table, row, Row::LEN));
+    text(rt, "\n");
 }
 
 // Whether the part is there, its length and its sum.
-fn view_of(file: &[u8], table: &[u64], row: usize) {
-    number(b"view ", row as u64);
+fn view_of(rt: &impl Print, file: &[u8], table: &[u64], row: usize) {
+    number(rt, "view ", row as u64);
     match view(file, table, row) {
-        ViewAnswer::There => text(b" there"),
-        ViewAnswer::Refused(_) => text(b" refused 13"),
+        ViewAnswer::There => text(rt, " there"),
+        ViewAnswer::Refused(_) => text(rt, " refused 13"),
     }
     let part = view_part(file, table, row);
-    number(b" length ", part.len() as u64);
-    number(b" sum ", sum(part));
+    number(rt, " length ", part.len() as u64);
+    number(rt, " sum ", sum(part));
 }
 
 // An address that was looked for among so many rows, and the answer.
-fn pointer(rows: usize, address: u64, found: Pointer) {
-    number(b"address ", address);
-    number(b" in ", rows as u64);
+fn pointer(rt: &impl Print, rows: usize, address: u64, found: Pointer) {
+    number(rt, "address ", address);
+    number(rt, " in ", rows as u64);
     match found {
-        Pointer::Null => text(b" null"),
-        Pointer::Block(row) => number(b" row ", row as u64),
-        Pointer::Missing => text(b" missing"),
-        Pointer::Refused(_) => text(b" refused 13"),
+        Pointer::Null => text(rt, " null"),
+        Pointer::Block(row) => number(rt, " row ", row as u64),
+        Pointer::Missing => text(rt, " missing"),
+        Pointer::Refused(_) => text(rt, " refused 13"),
     }
 }
 
-fn pointer_to(table: &[u64], rows: usize, address: u64) {
-    pointer(rows, address, get_ptr(table, rows, address));
+fn pointer_to(rt: &impl Print, table: &[u64], rows: usize, address: u64) {
+    pointer(rt, rows, address, get_ptr(table, rows, address));
 }
 
-fn code_of(n: u64) {
-    text(b"code ");
-    hex(n, 8);
+fn code_of(rt: &impl Print, n: u64) {
+    text(rt, "code ");
+    hex(rt, n, 8);
     match code(n) {
         BlockCode::Is(a, b, c, d) => {
-            text(b" is ");
-            hex(wide(a), 2);
-            hex(wide(b), 2);
-            hex(wide(c), 2);
-            hex(wide(d), 2);
+            text(rt, " is ");
+            hex(rt, wide(a), 2);
+            hex(rt, wide(b), 2);
+            hex(rt, wide(c), 2);
+            hex(rt, wide(d), 2);
         }
-        BlockCode::None => text(b" none"),
+        BlockCode::None => text(rt, " none"),
     }
 }
 
-fn view_line(file: &[u8], table: &[u64], row: usize) {
-    view_of(file, table, row);
-    text(b"\n");
+fn view_line(rt: &impl Print, file: &[u8], table: &[u64], row: usize) {
+    view_of(rt, file, table, row);
+    text(rt, "\n");
 }
 
-fn pointer_line(table: &[u64], rows: usize, address: u64) {
-    pointer_to(table, rows, address);
-    text(b"\n");
+fn pointer_line(rt: &impl Print, table: &[u64], rows: usize, address: u64) {
+    pointer_to(rt, table, rows, address);
+    text(rt, "\n");
 }
 
-fn code_line(n: u64) {
-    code_of(n);
-    text(b"\n");
+fn code_line(rt: &impl Print, n: u64) {
+    code_of(rt, n);
+    text(rt, "\n");
 }
 
 // A row's view, the row that its address leads to, and its code.
-fn asked_line(file: &[u8], table: &[u64], rows: usize, row: usize) {
-    view_of(file, table, row);
-    text(b" ");
-    pointer_to(table, rows, cell(table, row, Row::ADDRESS));
-    text(b" ");
-    code_line(cell(table, row, Row::CODE));
+fn asked_line(rt: &impl Print, file: &[u8], table: &[u64], rows: usize, row: usize) {
+    view_of(rt, file, table, row);
+    text(rt, " ");
+    pointer_to(rt, table, rows, cell(table, row, Row::ADDRESS));
+    text(rt, " ");
+    code_line(rt, cell(table, row, Row::CODE));
 }
 
 // What a line for each row is to say.
-#[derive(Drop)]
+#[derive(Clone, Copy)]
 enum Line {
     Numbers,
     Asked,
 }
 
-fn row_line(line: Line, file: &[u8], table: &[u64], rows: usize, row: usize) {
+fn row_line(rt: &impl Print, line: Line, file: &[u8], table: &[u64], rows: usize, row: usize) {
     match line {
-        Line::Numbers => block_line(table, row),
-        Line::Asked => asked_line(file, table, rows, row),
+        Line::Numbers => block_line(rt, table, row),
+        Line::Asked => asked_line(rt, file, table, rows, row),
     }
 }
 
-fn each_row(line: Line, file: &[u8], table: &[u64], rows: usize) {
-    let mut row = 0;
-    while row < rows {
-        row_line(line, file, table, rows, row);
-        row += 1;
+fn each_row(rt: &impl Print, line: Line, file: &[u8], table: &[u64], rows: usize) {
+    for row in 0..rows {
+        row_line(rt, line, file, table, rows, row);
     }
 }
 
-fn dna_line(n: DnaCounts) {
-    number(b"dna ", n.names);
-    number(b" ", n.types);
-    number(b" ", n.structs);
-    number(b" ", n.fields);
-    text(b"\n");
+fn dna_line(rt: &impl Print, n: DnaCounts) {
+    number(rt, "dna ", n.names);
+    number(rt, " ", n.types);
+    number(rt, " ", n.structs);
+    number(rt, " ", n.fields);
+    text(rt, "\n");
 }
 
 // What the reader answers, with the rows that it wrote; and how many these are.
-fn list(answer: BlendAnswer, file: &[u8], table: &[u64]) -> usize {
+fn list(rt: &impl Print, answer: BlendAnswer, file: &[u8], table: &[u64]) -> usize {
     match answer {
         BlendAnswer::Is(b) => {
             let h = b.header;
             let n = b.dna;
             let rows = b.rows;
-            text(b"blend");
-            header_numbers(h);
-            text(b"\n");
-            each_row(Line::Numbers, file, table, rows);
-            dna_line(n);
-            number(b"end ", b.end as u64);
-            text(b"\n");
+            text(rt, "blend");
+            header_numbers(rt, h);
+            text(rt, "\n");
+            each_row(rt, Line::Numbers, file, table, rows);
+            dna_line(rt, n);
+            number(rt, "end ", b.end as u64);
+            text(rt, "\n");
             rows
         }
         BlendAnswer::Refused(f) => {
-            refused(f);
-            text(b"\n");
+            refused(rt, f);
+            text(rt, "\n");
             0
         }
         BlendAnswer::TableTooShort(rows) => {
-            number(b"refused 7 ", rows as u64);
-            text(b"\n");
+            number(rt, "refused 7 ", rows as u64);
+            text(rt, "\n");
             0
         }
     }
@@ -326,19 +324,19 @@ fn walk(file: &[u8], table: &[u64]) -> Walked {
 }
 
 // A step's answer, and the place that it hands back, by a walker that holds the file.
-fn step_line(label: &[u8], place: Place, file: &[u8]) -> Place {
-    text(label);
+fn step_line(rt: &impl Print, label: &str, place: Place, file: &[u8]) -> Place {
+    text(rt, label);
     match step_from(file, place) {
         Step::Block(r, next) => {
-            number(b"block at ", r.at);
+            number(rt, "block at ", r.at);
             next
         }
         Step::End(at, next) => {
-            number(b"end ", at as u64);
+            number(rt, "end ", at as u64);
             next
         }
         Step::Refused(f, next) => {
-            refused(f);
+            refused(rt, f);
             next
         }
     }
@@ -353,71 +351,72 @@ fn past() -> Place {
 }
 
 // The walk, the step after its blocks, and that step once more; then a step from a place past the end.
-fn walk_line(file: &[u8], table: &[u64]) {
+fn walk_line(rt: &impl Print, file: &[u8], table: &[u64]) {
     let w = walk(file, table);
     let place = w.place;
-    number(b"walk ", w.blocks as u64);
+    number(rt, "walk ", w.blocks as u64);
     if w.same {
-        text(b" as in the table");
+        text(rt, " as in the table");
     } else {
-        text(b" not as in the table");
+        text(rt, " not as in the table");
     }
-    let last = step_line(b", then ", place, file);
-    step_line(b", again ", last, file);
-    step_line(b", past the end ", past(), file);
-    text(b"\n");
+    let last = step_line(rt, ", then ", place, file);
+    step_line(rt, ", again ", last, file);
+    step_line(rt, ", past the end ", past(), file);
+    text(rt, "\n");
 }
 
 // Reads a file, and asks all that can be asked of it; answers the number of rows.
-fn report(file: &[u8], table: &mut [u64]) -> usize {
-    let rows = list(blend(file, table), file, table);
+fn report(rt: &impl Print, file: &[u8], table: &mut [u64]) -> usize {
+    let rows = list(rt, blend(file, table), file, table);
     if rows <= table.len() / Row::NUMBERS {
-        kept_line(table, rows * Row::NUMBERS);
+        kept_line(rt, table, rows * Row::NUMBERS);
     }
-    walk_line(file, table);
-    each_row(Line::Asked, file, table, rows);
-    view_line(file, table, rows);
-    view_line(file, table, 512);
+    walk_line(rt, file, table);
+    each_row(rt, Line::Asked, file, table, rows);
+    view_line(rt, file, table, rows);
+    view_line(rt, file, table, 512);
     rows
 }
 
-fn example(title: &[u8], file: &[u8]) {
+fn example(rt: &impl Print, title: &str, file: &[u8]) {
     let mut table = [FILL; 3584];
-    text(title);
-    text(b"\n");
-    report(file, &mut table);
+    text(rt, title);
+    text(rt, "\n");
+    report(rt, file, &mut table);
 }
 
 // With 512 rows: the five lines and nothing else.
-fn with_enough(file: &[u8]) {
+fn with_enough(rt: &impl Print, file: &[u8]) {
     let mut table = [FILL; 3584];
-    list(blend(file, &mut table), file, &table);
+    list(rt, blend(file, &mut table), file, &table);
 }
 
 // With one row.
-fn with_seven(file: &[u8]) {
+fn with_seven(rt: &impl Print, file: &[u8]) {
     let mut table = [FILL; Row::NUMBERS];
-    text(b"table of 7 numbers\n");
-    list(blend(file, &mut table), file, &table);
-    kept_line(&table, 0);
+    text(rt, "table of 7 numbers\n");
+    list(rt, blend(file, &mut table), file, &table);
+    kept_line(rt, &table, 0);
 }
 
 // With one row and six numbers, which are no row.
-fn with_thirteen(file: &[u8]) {
+fn with_thirteen(rt: &impl Print, file: &[u8]) {
     let mut table = [FILL; 13];
-    text(b"table of 13 numbers\n");
-    list(blend(file, &mut table), file, &table);
-    kept_line(&table, 0);
+    text(rt, "table of 13 numbers\n");
+    list(rt, blend(file, &mut table), file, &table);
+    kept_line(rt, &table, 0);
 }
 
-fn hull(file: &[u8]) {
-    with_enough(file);
-    with_seven(file);
-    with_thirteen(file);
+fn hull(rt: &impl Print, file: &[u8]) {
+    with_enough(rt, file);
+    with_seven(rt, file);
+    with_thirteen(rt, file);
 }
 
-fn hull_file() {
+fn hull_file(rt: &impl Print) {
     hull(
+        rt,
         b"BLENDER-v280\
         OB\0\0\x04\0\0\0\x10\0\0\0\0\0\0\0\x03\0\0\0\x01\0\0\0hull\
         DNA1\x34\0\0\0\x20\0\0\0\0\0\0\0\0\0\0\0\x01\0\0\0\
@@ -426,20 +425,21 @@ fn hull_file() {
     );
 }
 
-fn headers() {
-    header_line(b"BLENDE");
-    header_line(b"BLENDER");
-    header_line(b"BLENDER-v280");
-    header_line(b"BLENDER-v280ENDB");
-    example(b"BLENDE", b"BLENDE");
-    example(b"BLENDER", b"BLENDER");
-    example(b"BLENDER-v280", b"BLENDER-v280");
-    example(b"BLENDER-v280ENDB", b"BLENDER-v280ENDB");
+fn headers(rt: &impl Print) {
+    header_line(rt, b"BLENDE");
+    header_line(rt, b"BLENDER");
+    header_line(rt, b"BLENDER-v280");
+    header_line(rt, b"BLENDER-v280ENDB");
+    example(rt, "BLENDE", b"BLENDE");
+    example(rt, "BLENDER", b"BLENDER");
+    example(rt, "BLENDER-v280", b"BLENDER-v280");
+    example(rt, "BLENDER-v280ENDB", b"BLENDER-v280ENDB");
 }
 
-fn code_of_zeros() {
+fn code_of_zeros(rt: &impl Print) {
     example(
-        b"code of four zeros, count 1",
+        rt,
+        "code of four zeros, count 1",
         b"BLENDER-v280\
         \0\0\0\0\x04\0\0\0\x10\0\0\0\0\0\0\0\x03\0\0\0\x01\0\0\0hull\
         DNA1\x34\0\0\0\x20\0\0\0\0\0\0\0\0\0\0\0\x01\0\0\0\
@@ -447,48 +447,53 @@ fn code_of_zeros() {
         ENDB",
     );
     example(
-        b"code of four zeros, count 2",
+        rt,
+        "code of four zeros, count 2",
         b"BLENDER-v280\
         \0\0\0\0\x04\0\0\0\x10\0\0\0\0\0\0\0\x03\0\0\0\x02\0\0\0hull\
         ENDB",
     );
 }
 
-fn faults() {
+fn faults(rt: &impl Print) {
     example(
-        b"REND with address 0",
+        rt,
+        "REND with address 0",
         b"BLENDER-v280\
         REND\x04\0\0\0\0\0\0\0\0\0\0\0\x03\0\0\0\x01\0\0\0hull\
         ENDB",
     );
     example(
-        b"REND with address 0, cut after it",
+        rt,
+        "REND with address 0, cut after it",
         b"BLENDER-v280\
         REND\x04\0\0\0\0\0\0\0\0\0\0\0",
     );
     example(
-        b"unknown code, cut payload",
+        rt,
+        "unknown code, cut payload",
         b"BLENDER-v280\
         USER\x04\0\0\0\x10\0\0\0\0\0\0\0\x03\0\0\0\x01\0\0\0hul",
     );
     example(
-        b"unknown code, whole payload",
+        rt,
+        "unknown code, whole payload",
         b"BLENDER-v280\
         USER\x04\0\0\0\x10\0\0\0\0\0\0\0\x03\0\0\0\x01\0\0\0hull",
     );
 }
 
 // The search, over a table of 512 rows of which so many are filled.
-fn pointers(table: &[u64], rows: usize) {
-    pointer_line(table, rows, 0);
-    pointer_line(table, rows, 32);
-    pointer_line(table, rows, 64);
-    pointer_line(table, rows, 16);
-    pointer_line(table, rows, 48);
-    pointer_line(table, 1, 32);
-    pointer_line(table, 512, FILL);
-    pointer_line(table, 513, 32);
-    pointer_line(table, 513, 0);
+fn pointers(rt: &impl Print, table: &[u64], rows: usize) {
+    pointer_line(rt, table, rows, 0);
+    pointer_line(rt, table, rows, 32);
+    pointer_line(rt, table, rows, 64);
+    pointer_line(rt, table, rows, 16);
+    pointer_line(rt, table, rows, 48);
+    pointer_line(rt, table, 1, 32);
+    pointer_line(rt, table, 512, FILL);
+    pointer_line(rt, table, 513, 32);
+    pointer_line(rt, table, 513, 0);
 }
 
 fn row_of(table: &[u64], row: usize) -> Row {
@@ -503,49 +508,50 @@ fn row_of(table: &[u64], row: usize) -> Row {
     }
 }
 
-fn record_line(rows: [Row; 4], n: usize, address: u64) {
-    text(b"records ");
-    pointer(n, address, find_in(rows, n, address));
-    text(b"\n");
+fn record_line(rt: &impl Print, rows: [Row; 4], n: usize, address: u64) {
+    text(rt, "records ");
+    pointer(rt, n, address, find_in(rows, n, address));
+    text(rt, "\n");
 }
 
 // The search again, over the first four rows as records.
-fn records(table: &[u64]) {
+fn records(rt: &impl Print, table: &[u64]) {
     let a = row_of(table, 0);
     let b = row_of(table, 1);
     let c = row_of(table, 2);
     let d = row_of(table, 3);
     let rows = [a, b, c, d];
-    record_line(rows, 4, 0);
-    record_line(rows, 4, 32);
-    record_line(rows, 4, 64);
-    record_line(rows, 4, 16);
-    record_line(rows, 4, 48);
-    record_line(rows, 1, 32);
-    record_line(rows, 5, 32);
-    record_line(rows, 5, 0);
+    record_line(rt, rows, 4, 0);
+    record_line(rt, rows, 4, 32);
+    record_line(rt, rows, 4, 64);
+    record_line(rt, rows, 4, 16);
+    record_line(rt, rows, 4, 48);
+    record_line(rt, rows, 1, 32);
+    record_line(rt, rows, 5, 32);
+    record_line(rt, rows, 5, 0);
 }
 
-fn codes() {
-    code_line(0x5245_4e44);
-    code_line(0x5445_5354);
-    code_line(0x454e_4442);
-    code_line(0x4f42_0001);
-    code_line(0x1_4f42_0000);
+fn codes(rt: &impl Print) {
+    code_line(rt, 0x5245_4e44);
+    code_line(rt, 0x5445_5354);
+    code_line(rt, 0x454e_4442);
+    code_line(rt, 0x4f42_0001);
+    code_line(rt, 0x1_4f42_0000);
 }
 
 // A GLOB, an OB and a DATA, the last two with one address.
-fn addresses(file: &[u8]) {
+fn addresses(rt: &impl Print, file: &[u8]) {
     let mut table = [FILL; 3584];
-    text(b"equal addresses\n");
-    let rows = report(file, &mut table);
-    pointers(&table, rows);
-    records(&table);
-    codes();
+    text(rt, "equal addresses\n");
+    let rows = report(rt, file, &mut table);
+    pointers(rt, &table, rows);
+    records(rt, &table);
+    codes(rt);
 }
 
-fn addresses_file() {
+fn addresses_file(rt: &impl Print) {
     addresses(
+        rt,
         b"BLENDER-v280\
         GLOB\x04\0\0\0\x10\0\0\0\0\0\0\0\x03\0\0\0\x01\0\0\0glob\
         OB\0\0\x04\0\0\0\x20\0\0\0\0\0\0\0\x04\0\0\0\x01\0\0\0hull\
@@ -563,50 +569,66 @@ enum Held {
     Catalogue(Endianness),
 }
 
-fn held_report(held: Held, path: &[u8], file: &[u8]) {
+fn held_report(rt: &impl Print, held: Held, path: &str, file: &[u8]) {
     match held {
-        Held::Scene => example(path, file),
-        Held::Catalogue(order) => catalogue::report(path, file, order),
+        Held::Scene => example(rt, path, file),
+        Held::Catalogue(order) => catalogue::report(rt, path, file, order),
     }
 }
 
-fn sample(held: Held, path: &[u8]) {
-    let file = os::open_read(path);
-    if file < 0 {
-        os::fail(path);
-        return;
+// Reads until the buffer is full, the file ends or a read fails; how many bytes there are then.
+fn read_full<R: Read + Drop>(mut file: R, buffer: &mut [u8]) -> usize
+    ensures { result ≤ length buffer.new }
+{
+    let mut n = 0;
+    while n < buffer.len() {
+        match file.read(&mut buffer[n..]) {
+            Ok(0) => break,
+            Ok(more) => n += more,
+            Err(_) => break,
+        }
     }
-    let mut buffer = [0u8; 131072];
-    let n = io::read_full(file, &mut buffer);
-    libc::close(file);
-    held_report(held, path, &buffer[..n]);
+    n
 }
 
-fn scenes() {
-    sample(Held::Scene, b"lamp.blend");
-    sample(Held::Scene, b"lamp_legacy32big.blend");
-    sample(Held::Scene, b"lamp_legacy32little.blend");
-    sample(Held::Scene, b"lamp_legacy64big.blend");
-    sample(Held::Scene, b"lamp_legacy64little.blend");
-    sample(Held::Scene, b"lamp_new32big.blend");
-    sample(Held::Scene, b"lamp_new32little.blend");
-    sample(Held::Scene, b"lamp_new64big.blend");
-    sample(Held::Scene, b"lamp_new64little.blend");
+fn sample(rt: &(impl Files + Print + Eprint), held: Held, path: &str) {
+    match fs::open(rt, path) {
+        Ok(file) => {
+            let mut buffer = [0u8; 131072];
+            let n = read_full(file, &mut buffer);
+            held_report(rt, held, path, &buffer[..n]);
+        }
+        Err(e) => {
+            let _ = eprintln!(rt; "{path}: {e}");
+        }
+    }
+}
+
+fn scenes(rt: &(impl Files + Print + Eprint)) {
+    sample(rt, Held::Scene, "lamp.blend");
+    sample(rt, Held::Scene, "lamp_legacy32big.blend");
+    sample(rt, Held::Scene, "lamp_legacy32little.blend");
+    sample(rt, Held::Scene, "lamp_legacy64big.blend");
+    sample(rt, Held::Scene, "lamp_legacy64little.blend");
+    sample(rt, Held::Scene, "lamp_new32big.blend");
+    sample(rt, Held::Scene, "lamp_new32little.blend");
+    sample(rt, Held::Scene, "lamp_new64big.blend");
+    sample(rt, Held::Scene, "lamp_new64little.blend");
 }
 
 // Each in its own order, and one in the other.
-fn catalogues() {
-    sample(Held::Catalogue(Endianness::Little), b"little.sdna");
-    sample(Held::Catalogue(Endianness::Big), b"big.sdna");
-    sample(Held::Catalogue(Endianness::Little), b"big.sdna");
+fn catalogues(rt: &(impl Files + Print + Eprint)) {
+    sample(rt, Held::Catalogue(Endianness::Little), "little.sdna");
+    sample(rt, Held::Catalogue(Endianness::Big), "big.sdna");
+    sample(rt, Held::Catalogue(Endianness::Little), "big.sdna");
 }
 
-fn main() {
-    hull_file();
-    headers();
-    code_of_zeros();
-    faults();
-    addresses_file();
-    scenes();
-    catalogues();
+fn main(rt: HostRuntime) {
+    hull_file(&rt);
+    headers(&rt);
+    code_of_zeros(&rt);
+    faults(&rt);
+    addresses_file(&rt);
+    scenes(&rt);
+    catalogues(&rt);
 }
