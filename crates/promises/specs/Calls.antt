@@ -1,4 +1,4 @@
--- Every public call of the libraries: by its name, with its signature, its routine and its contract, which is the one that src/ ensures
+-- Every public call of the libraries: by its name, with its signature, its code and its contract, which is the one that src/ ensures
 -- (crates/NAME/specs/Calls.antt). tests/public-calls fails where a public function is none of these.
 use Rattle.std.specs.Prelude.{ℕ, List, ◌≡◌}
 use Rattle.octets.specs.Paper.{Paper}

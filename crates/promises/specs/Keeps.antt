@@ -1,5 +1,5 @@
--- What it is that a public call keeps its contract, said of the routine that the compiler makes of it, in the terms of the kit's program logic: a caller brings nothing
--- but arguments of the parameters' types, the routine ends, and what the contract says holds of the answer and of what the parameters hold then.
+-- What it is that a public call keeps its contract, said of the code that the compiler makes of it, in the terms of the kit's program logic: a caller brings nothing
+-- but arguments of the parameters' types, the call ends, and what the contract says holds of the answer and of what the parameters hold then.
 use Rattle.std.specs.Prelude.{List, ◌≡◌, ℕ}
 use seplogic.Ra.Ura.{Ura}
 use prog.Model.{Model}
