@@ -1,2 +1,3 @@
 -- Laws for the proofs of this crate.
 pub mod Floats
+pub mod Numerals

@@ -1,11 +1,11 @@
 // Catalogues: the counts, and a line for each row of the four tables.
 use crate::file::refused_line;
-use crate::out::{SIZE, byte, bytes, line, text};
-use octets::Endianness;
+use crate::out::{Output, byte, bytes, line, text};
 use dna::dna::{DnaCounted, DnaCounts, DnaTables, dna, dna_counts};
+use octets::Endianness;
 
 // What a line for each row of a table is to say.
-#[derive(Drop)]
+#[derive(Clone, Copy)]
 enum Line {
     Name,
     Type,
@@ -33,97 +33,80 @@ fn of_three(table: &[u64], row: usize, i: usize) -> u64 {
 }
 
 // A name's bytes, by its place in the payload.
-fn name(space: &mut [u8; SIZE], at: &mut usize, payload: &[u8], from: usize, len: usize) {
+fn name(out: &mut Output, payload: &[u8], from: usize, len: usize) {
     if from <= payload.len() {
         if len <= payload.len() - from {
             if 0 < len {
-                byte(space, at, b' ');
+                byte(out, b' ');
             }
             let to = from + len;
-            bytes(space, at, &payload[from..to]);
-            byte(space, at, b'\n');
+            bytes(out, &payload[from..to]);
+            byte(out, b'\n');
             return;
         }
     }
-    text(space, at, b" outside\n");
+    text(out, b" outside\n");
 }
 
-fn name_line(space: &mut [u8; SIZE], at: &mut usize, payload: &[u8], table: &[u64], row: usize) {
+fn name_line(out: &mut Output, payload: &[u8], table: &[u64], row: usize) {
     let from = of_two(table, row, 0);
     let len = of_two(table, row, 1);
-    line(space, at, b"name #", &[len]);
-    name(space, at, payload, from as usize, len as usize);
+    line(out, b"name #", &[len]);
+    name(out, payload, from as usize, len as usize);
 }
 
-fn type_line(space: &mut [u8; SIZE], at: &mut usize, payload: &[u8], table: &[u64], row: usize) {
+fn type_line(out: &mut Output, payload: &[u8], table: &[u64], row: usize) {
     let from = of_three(table, row, 0);
     let len = of_three(table, row, 1);
-    line(space, at, b"type # #", &[of_three(table, row, 2), len]);
-    name(space, at, payload, from as usize, len as usize);
+    line(out, b"type # #", &[of_three(table, row, 2), len]);
+    name(out, payload, from as usize, len as usize);
 }
 
-fn struct_line(space: &mut [u8; SIZE], at: &mut usize, table: &[u64], row: usize) {
+fn struct_line(out: &mut Output, table: &[u64], row: usize) {
     if row < table.len() / 3 {
         let from = row * 3;
         let to = from + 3;
-        line(space, at, b"struct # # #\n", &table[from..to]);
+        line(out, b"struct # # #\n", &table[from..to]);
     }
 }
 
-fn field_line(space: &mut [u8; SIZE], at: &mut usize, table: &[u64], row: usize) {
+fn field_line(out: &mut Output, table: &[u64], row: usize) {
     if row < table.len() / 2 {
         let from = row * 2;
         let to = from + 2;
-        line(space, at, b"field # #\n", &table[from..to]);
+        line(out, b"field # #\n", &table[from..to]);
     }
 }
 
-fn row_line(
-    space: &mut [u8; SIZE],
-    at: &mut usize,
-    kind: Line,
-    payload: &[u8],
-    table: &[u64],
-    row: usize,
-) {
+fn row_line(out: &mut Output, kind: Line, payload: &[u8], table: &[u64], row: usize) {
     match kind {
-        Line::Name => name_line(space, at, payload, table, row),
-        Line::Type => type_line(space, at, payload, table, row),
-        Line::Struct => struct_line(space, at, table, row),
-        Line::Field => field_line(space, at, table, row),
+        Line::Name => name_line(out, payload, table, row),
+        Line::Type => type_line(out, payload, table, row),
+        Line::Struct => struct_line(out, table, row),
+        Line::Field => field_line(out, table, row),
     }
 }
 
-fn lines(
-    space: &mut [u8; SIZE],
-    at: &mut usize,
-    kind: Line,
-    payload: &[u8],
-    table: &[u64],
-    rows: u64,
-) {
+fn lines(out: &mut Output, kind: Line, payload: &[u8], table: &[u64], rows: u64) {
     let n = rows as usize;
-    let mut row = 0;
-    while row < n {
-        row_line(space, at, kind, payload, table, row);
-        row += 1;
+    for row in 0..n {
+        row_line(out, kind, payload, table, row);
     }
 }
 
 // The place after the last struct.
-fn last(space: &mut [u8; SIZE], at: &mut usize, payload: &[u8], order: Endianness) {
+fn last(out: &mut Output, payload: &[u8], order: Endianness) {
     match dna_counts(payload, order) {
-        DnaCounted::Are(_, n) => line(space, at, b" #\n", &[n as u64]),
+        DnaCounted::Are(_, n) => line(out, b" #\n", &[n as u64]),
         DnaCounted::Stopped(f) => {
-            text(space, at, b" ");
-            refused_line(space, at, f);
+            text(out, b" ");
+            refused_line(out, f);
         }
     }
 }
 
 fn read_lines(
-    space: &mut [u8; SIZE],
-    at: &mut usize,
+    out: &mut Output,
     payload: &[u8],
     order: Endianness,
     n: DnaCounts,
@@ -133,22 +116,20 @@ fn read_lines(
     fields: &[u64],
 ) {
     line(
-        space,
-        at,
+        out,
         b"dna # # # #",
         &[n.names, n.types, n.structs, n.fields],
     );
-    last(space, at, payload, order);
-    lines(space, at, Line::Name, payload, names, n.names);
-    lines(space, at, Line::Type, payload, types, n.types);
-    lines(space, at, Line::Struct, payload, structs, n.structs);
-    lines(space, at, Line::Field, payload, fields, n.fields);
+    last(out, payload, order);
+    lines(out, Line::Name, payload, names, n.names);
+    lines(out, Line::Type, payload, types, n.types);
+    lines(out, Line::Struct, payload, structs, n.structs);
+    lines(out, Line::Field, payload, fields, n.fields);
 }
 
 // Answers with the tables that are lent, or, where one of them is too short, nothing. Whether they were long enough.
 fn answer_in(
-    space: &mut [u8; SIZE],
-    at: &mut usize,
+    out: &mut Output,
     payload: &[u8],
     order: Endianness,
     names: &mut [u64],
@@ -158,11 +139,11 @@ fn answer_in(
 ) -> bool {
     match dna(payload, order, names, types, structs, fields) {
         DnaTables::Are(n) => {
-            read_lines(space, at, payload, order, n, names, types, structs, fields);
+            read_lines(out, payload, order, n, names, types, structs, fields);
             true
         }
         DnaTables::Refused(f) => {
-            refused_line(space, at, f);
+            refused_line(out, f);
             true
         }
         DnaTables::TableTooShort(_, _) => false,
@@ -170,14 +151,13 @@ fn answer_in(
 }
 
 // With tables for the catalogue of a real scene.
-fn large(space: &mut [u8; SIZE], at: &mut usize, payload: &[u8], order: Endianness) -> bool {
+fn large(out: &mut Output, payload: &[u8], order: Endianness) -> bool {
     let mut names = [0u64; 5000 * 2];
     let mut types = [0u64; 1000 * 3];
     let mut structs = [0u64; 1000 * 3];
     let mut fields = [0u64; 9000 * 2];
     answer_in(
-        space,
-        at,
+        out,
         payload,
         order,
         &mut names,
@@ -188,14 +168,13 @@ fn large(space: &mut [u8; SIZE], at: &mut usize, payload: &[u8], order: Endianne
 }
 
 // Most catalogues are small, and so are the tables that are made for each.
-fn small(space: &mut [u8; SIZE], at: &mut usize, payload: &[u8], order: Endianness) -> bool {
+fn small(out: &mut Output, payload: &[u8], order: Endianness) -> bool {
     let mut names = [0u64; 64 * 2];
     let mut types = [0u64; 64 * 3];
     let mut structs = [0u64; 64 * 3];
     let mut fields = [0u64; 128 * 2];
     answer_in(
-        space,
-        at,
+        out,
         payload,
         order,
         &mut names,
@@ -205,11 +184,11 @@ fn small(space: &mut [u8; SIZE], at: &mut usize, payload: &[u8], order: Endianne
     )
 }
 
-pub fn answer(space: &mut [u8; SIZE], at: &mut usize, payload: &[u8], order: Endianness) {
-    if small(space, at, payload, order) {
+pub fn answer(out: &mut Output, payload: &[u8], order: Endianness) {
+    if small(out, payload, order) {
         return;
     }
-    if !large(space, at, payload, order) {
-        text(space, at, b"refused 8\n");
+    if !large(out, payload, order) {
+        text(out, b"refused 8\n");
     }
 }

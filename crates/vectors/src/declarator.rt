@@ -1,6 +1,6 @@
 // Declarators.
 use crate::file::refused_line;
-use crate::out::{SIZE, byte, line, text, words};
+use crate::out::{Output, byte, line, text, words};
 use field::field::{Declarator, FieldInfo, FnPointerField, ParsedField, fn_pointer, parse_field};
 
 // All numbers of a declarator: where the name starts and how long it is, the same of the rest, the indirection, and the length and the number of
@@ -25,48 +25,41 @@ fn numbers(d: Declarator) -> [u64; 7] {
     }
 }
 
-fn short_form(space: &mut [u8; SIZE], at: &mut usize, kind: FieldInfo, all: &[u64]) {
+fn short_form(out: &mut Output, kind: FieldInfo, all: &[u64]) {
     match kind {
-        FieldInfo::Value => line(space, at, b"value # # #", all),
-        FieldInfo::ValueArray { .. } => line(space, at, b"array # # #^^ # #", all),
-        FieldInfo::Pointer { .. } => line(space, at, b"pointer # # #^ #", all),
-        FieldInfo::PointerArray { .. } => line(space, at, b"pointer-array # # #^ # # #", all),
-        FieldInfo::FnPointer => line(space, at, b"fn # # #", all),
+        FieldInfo::Value => line(out, b"value # # #", all),
+        FieldInfo::ValueArray { .. } => line(out, b"array # # #^^ # #", all),
+        FieldInfo::Pointer { .. } => line(out, b"pointer # # #^ #", all),
+        FieldInfo::PointerArray { .. } => line(out, b"pointer-array # # #^ # # #", all),
+        FieldInfo::FnPointer => line(out, b"fn # # #", all),
     }
 }
 
-fn long_form(space: &mut [u8; SIZE], at: &mut usize, kind: FieldInfo, all: &[u64]) {
+fn long_form(out: &mut Output, kind: FieldInfo, all: &[u64]) {
     match kind {
-        FieldInfo::Value => line(space, at, b"value name # # rest # #", all),
+        FieldInfo::Value => line(out, b"value name # # rest # #", all),
         FieldInfo::ValueArray { .. } => line(
-            space,
-            at,
+            out,
             b"value array name # # rest # #^ length # dimensions #",
             all,
         ),
-        FieldInfo::Pointer { .. } => line(
-            space,
-            at,
-            b"pointer name # # rest # # indirection #",
-            all,
-        ),
+        FieldInfo::Pointer { .. } => line(out, b"pointer name # # rest # # indirection #", all),
         FieldInfo::PointerArray { .. } => {
             line(
-                space,
-                at,
+                out,
                 b"pointer array name # # rest # # indirection # length # dimensions #",
                 all,
             )
         }
-        FieldInfo::FnPointer => line(space, at, b"function pointer name # # rest # #", all),
+        FieldInfo::FnPointer => line(out, b"function pointer name # # rest # #", all),
     }
 }
 
 // The first numbers of the table of dimensions.
-fn dimensions(space: &mut [u8; SIZE], at: &mut usize, table: &[u64], count: u64) {
+fn dimensions(out: &mut Output, table: &[u64], count: u64) {
     let n = count as usize;
     if n <= table.len() {
-        words(space, at, &table[0..n]);
+        words(out, &table[0..n]);
     }
 }
 
@@ -77,56 +70,38 @@ pub enum Form {
     Long,
 }
 
-pub fn declarator(
-    space: &mut [u8; SIZE],
-    at: &mut usize,
-    form: Form,
-    table: &[u64],
-    d: Declarator,
-) {
+pub fn declarator(out: &mut Output, form: Form, table: &[u64], d: Declarator) {
     let all = numbers(d);
     let kind = d.kind;
     match form {
         Form::Short => {
-            short_form(space, at, kind, &all);
-            dimensions(space, at, table, all[6]);
+            short_form(out, kind, &all);
+            dimensions(out, table, all[6]);
         }
-        Form::Long => long_form(space, at, kind, &all),
+        Form::Long => long_form(out, kind, &all),
     }
 }
 
-pub fn parsed(
-    space: &mut [u8; SIZE],
-    at: &mut usize,
-    form: Form,
-    table: &[u64],
-    answer: ParsedField,
-) {
+pub fn parsed(out: &mut Output, form: Form, table: &[u64], answer: ParsedField) {
     match answer {
-        ParsedField::Is(d) => declarator(space, at, form, table, d),
-        ParsedField::Refused(n) => line(space, at, b"refused #", &[n]),
-        ParsedField::DimensionTableTooShort(groups) => line(
-            space,
-            at,
-            b"refused 11 #",
-            &[groups as u64],
-        ),
+        ParsedField::Is(d) => declarator(out, form, table, d),
+        ParsedField::Refused(n) => line(out, b"refused #", &[n]),
+        ParsedField::DimensionTableTooShort(groups) => line(out, b"refused 11 #", &[groups as u64]),
     }
 }
 
-pub fn answer(space: &mut [u8; SIZE], at: &mut usize, name: &[u8]) {
+pub fn answer(out: &mut Output, name: &[u8]) {
     let mut table = [0u64; 64];
     let found = parse_field(name, &mut table);
-    parsed(space, at, Form::Short, &table, found);
-    byte(space, at, b'\n');
+    parsed(out, Form::Short, &table, found);
+    byte(out, b'\n');
 }
 
-fn function_line(space: &mut [u8; SIZE], at: &mut usize, d: Declarator) {
+fn function_line(out: &mut Output, d: Declarator) {
     let name = d.name;
     let rest = d.rest;
     line(
-        space,
-        at,
+        out,
         b"fn # # # #\n",
         &[
             name.at as u64,
@@ -138,9 +113,9 @@ fn function_line(space: &mut [u8; SIZE], at: &mut usize, d: Declarator) {
 }
 
 // A name as a function pointer.
-pub fn function_answer(space: &mut [u8; SIZE], at: &mut usize, name: &[u8]) {
+pub fn function_answer(out: &mut Output, name: &[u8]) {
     match fn_pointer(name) {
-        FnPointerField::Is(d) => function_line(space, at, d),
-        FnPointerField::Refused(f) => refused_line(space, at, f),
+        FnPointerField::Is(d) => function_line(out, d),
+        FnPointerField::Refused(f) => refused_line(out, f),
     }
 }

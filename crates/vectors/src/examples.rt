@@ -5,124 +5,110 @@
 // - `s`: read without a table. `f`: read as a function pointer.
 use crate::declarator::{Form, declarator, parsed};
 use crate::file::refused;
-use crate::out::{SIZE, byte, line, number, text, wide, words};
-use octets::PointerSize;
-use octets::cursor::before;
+use crate::out::{Output, byte, line, number, text, wide, words};
+use crate::read_full;
 use field::field::{
     FieldWidth, FnPointerField, ParsedField, fn_pointer, parse_field, scan_field, width,
 };
-use std::num::wrapping_add_u64;
+use octets::PointerSize;
+use octets::cursor::before;
+use std::env::Env;
+use std::fs::File;
+use std::io::Eprint;
+use std::rt::Files;
+use std::str;
 
-fn quoted(space: &mut [u8; SIZE], at: &mut usize, label: &[u8], name: &[u8]) {
-    text(space, at, label);
-    byte(space, at, b'"');
-    text(space, at, name);
-    byte(space, at, b'"');
+fn quoted(out: &mut Output, label: &[u8], name: &[u8]) {
+    text(out, label);
+    byte(out, b'"');
+    text(out, name);
+    byte(out, b'"');
 }
 
 // With the first numbers of a table.
-fn table_words(
-    space: &mut [u8; SIZE],
-    at: &mut usize,
-    name: &[u8],
-    room: usize,
-    table: &mut [u64],
-) {
+fn table_words(out: &mut Output, name: &[u8], room: usize, table: &mut [u64]) {
     if room <= table.len() {
         let found = parse_field(name, &mut table[0..room]);
-        parsed(space, at, Form::Long, table, found);
-        text(space, at, b" |");
-        words(space, at, &table[0..room]);
+        parsed(out, Form::Long, table, found);
+        text(out, b" |");
+        words(out, &table[0..room]);
     }
 }
 
-fn with_table(space: &mut [u8; SIZE], at: &mut usize, name: &[u8], room: usize) {
+fn with_table(out: &mut Output, name: &[u8], room: usize) {
     let mut table = [9u64; 3];
-    quoted(space, at, b"", name);
-    line(space, at, b" #: ", &[room as u64]);
-    table_words(space, at, name, room, &mut table);
+    quoted(out, b"", name);
+    line(out, b" #: ", &[room as u64]);
+    table_words(out, name, room, &mut table);
 }
 
-fn without_table(space: &mut [u8; SIZE], at: &mut usize, name: &[u8]) {
-    quoted(space, at, b"scan of ", name);
-    text(space, at, b": ");
-    parsed(space, at, Form::Long, &[0], scan_field(name));
+fn without_table(out: &mut Output, name: &[u8]) {
+    quoted(out, b"scan of ", name);
+    text(out, b": ");
+    parsed(out, Form::Long, &[0], scan_field(name));
 }
 
-fn function(space: &mut [u8; SIZE], at: &mut usize, name: &[u8]) {
-    quoted(space, at, b"function pointer of ", name);
-    text(space, at, b": ");
+fn function(out: &mut Output, name: &[u8]) {
+    quoted(out, b"function pointer of ", name);
+    text(out, b": ");
     match fn_pointer(name) {
-        FnPointerField::Is(d) => declarator(space, at, Form::Long, &[0], d),
-        FnPointerField::Refused(f) => refused(space, at, f),
+        FnPointerField::Is(d) => declarator(out, Form::Long, &[0], d),
+        FnPointerField::Refused(f) => refused(out, f),
     }
 }
 
-fn width_words(space: &mut [u8; SIZE], at: &mut usize, answer: FieldWidth) {
+fn width_words(out: &mut Output, answer: FieldWidth) {
     match answer {
-        FieldWidth::Is(n) => number(space, at, b'#', n),
-        FieldWidth::Refused(n) => line(space, at, b"refused #", &[n]),
+        FieldWidth::Is(n) => number(out, b'#', n),
+        FieldWidth::Refused(n) => line(out, b"refused #", &[n]),
     }
 }
 
-fn sized(space: &mut [u8; SIZE], at: &mut usize, name: &[u8], size: u64, pointers: PointerSize) {
+fn sized(out: &mut Output, name: &[u8], size: u64, pointers: PointerSize) {
     let mut table = [0u64; 3];
     match parse_field(name, &mut table) {
-        ParsedField::Is(d) => width_words(space, at, width(d, size, pointers)),
-        _ => text(space, at, b"none"),
+        ParsedField::Is(d) => width_words(out, width(d, size, pointers)),
+        _ => text(out, b"none"),
     }
 }
 
-fn width_line(
-    space: &mut [u8; SIZE],
-    at: &mut usize,
-    name: &[u8],
-    size: u64,
-    pointers: PointerSize,
-) {
-    quoted(space, at, b"width of ", name);
-    line(
-        space,
-        at,
-        b" of # with #: ",
-        &[size, pointers.bytes_num() as u64],
-    );
-    sized(space, at, name, size, pointers);
+fn width_line(out: &mut Output, name: &[u8], size: u64, pointers: PointerSize) {
+    quoted(out, b"width of ", name);
+    line(out, b" of # with #: ", &[size, pointers.bytes_num() as u64]);
+    sized(out, name, size, pointers);
 }
 
 // A number of at most 64 bits.
 fn decimal(digits: &[u8]) -> u64 {
     let mut n: u64 = 0;
-    let mut i = 0;
-    while i < digits.len() {
-        n = wrapping_add_u64(n % 1844674407370955162 * 10, wide(digits[i]) % 16);
-        i += 1;
+    for d in digits {
+        n = (n % 1844674407370955162 * 10).wrapping_add(wide(*d) % 16);
     }
     n
 }
 
-fn with_size(space: &mut [u8; SIZE], at: &mut usize, s: &[u8], pointers: PointerSize) {
+fn with_size(out: &mut Output, s: &[u8], pointers: PointerSize) {
     let n = before(s, b' ');
     if n < s.len() {
         let from = n + 1;
-        width_line(space, at, &s[from..], decimal(&s[0..n]), pointers);
+        width_line(out, &s[from..], decimal(&s[0..n]), pointers);
     }
 }
 
-fn example(space: &mut [u8; SIZE], at: &mut usize, asked: u8, s: &[u8]) {
+fn example(out: &mut Output, asked: u8, s: &[u8]) {
     match asked {
-        b'1' => with_table(space, at, s, 1),
-        b'2' => with_table(space, at, s, 2),
-        b'3' => with_table(space, at, s, 3),
-        b's' => without_table(space, at, s),
-        b'f' => function(space, at, s),
-        b'w' => with_size(space, at, s, PointerSize::Bits32),
-        _ => with_size(space, at, s, PointerSize::Bits64),
+        b'1' => with_table(out, s, 1),
+        b'2' => with_table(out, s, 2),
+        b'3' => with_table(out, s, 3),
+        b's' => without_table(out, s),
+        b'f' => function(out, s),
+        b'w' => with_size(out, s, PointerSize::Bits32),
+        _ => with_size(out, s, PointerSize::Bits64),
     }
-    byte(space, at, b'\n');
+    byte(out, b'\n');
 }
 
-fn lines(space: &mut [u8; SIZE], at: &mut usize, all: &[u8]) {
+fn lines(out: &mut Output, all: &[u8]) {
     let mut from = 0;
     while from < all.len() {
         let n = before(&all[from..], b'\n');
@@ -132,25 +118,37 @@ fn lines(space: &mut [u8; SIZE], at: &mut usize, all: &[u8]) {
         let to = from + n;
         if 2 <= n {
             let start = from + 2;
-            example(space, at, all[from], &all[start..to]);
+            example(out, all[from], &all[start..to]);
         }
         from = to + 1;
     }
 }
 
+// The lines of this file; where it cannot be opened, standard error says why.
+fn file_lines(out: &mut Output, rt: &(impl Files + Eprint), path: &str, buffer: &mut [u8]) {
+    match File::open(rt, path) {
+        Ok(mut file) => {
+            let len = read_full(&mut file, buffer);
+            drop(file);
+            lines(out, &buffer[..len]);
+        }
+        Err(e) => {
+            let _ = eprintln!(rt; "{path}: {e}");
+        }
+    }
+}
+
 // The lines of the file that the program's argument names, if it has one.
-pub fn answer(space: &mut [u8; SIZE], at: &mut usize, buffer: &mut [u8]) {
+pub fn answer(out: &mut Output, rt: &(impl Env + Files + Eprint), buffer: &mut [u8]) {
     let mut path = [0u8; 64];
-    let n = os::arg(1, &mut path);
+    let n = rt.arg(1, &mut path).unwrap_or(0);
     if n == 0 {
         return;
     }
-    let file = os::open_read(&path[..n]);
-    if file < 0 {
-        os::fail(&path[..n]);
-        return;
+    match str::from_utf8(&path[..n]) {
+        Ok(path) => file_lines(out, rt, path, buffer),
+        Err(e) => {
+            let _ = eprintln!(rt; "the file's name: {e}");
+        }
     }
-    let len = io::read_full(file, buffer);
-    libc::close(file);
-    lines(space, at, &buffer[..len]);
 }

@@ -1,13 +1,12 @@
 // Whole files: the header, the rows with what their views show, and a walk that has to find the same.
-use crate::out::{LEGACY, NEW, SIZE, line, text, wide};
+use crate::out::{LEGACY, NEW, Output, line, text, wide};
 use crate::values::order_word;
 use blend::blend::{BlendAnswer, RawBlend, blend};
 use block::Row;
-use octets::{Fault, PointerSize};
 use header::blend::{HeaderAnswer, header};
 use header::{FileFormat, Header};
+use octets::{Fault, PointerSize};
 use runtime::runtime::{ViewAnswer, view, view_part};
-use std::num::wrapping_add_u64;
 use walker::{Place, Step};
 
 // 128 rows.
@@ -25,19 +24,14 @@ pub fn cell(table: &[u64], row: usize, i: usize) -> u64 {
 
 // Times 2^40 + 435, the factor of 64-bit FNV-1a, with what 64 bits hold of the product.
 fn times_factor(h: u64) -> u64 {
-    let low = h % 0x1_0000_0000 * 435;
-    let high = h / 0x1_0000_0000 * 435 % 0x1_0000_0000 * 0x1_0000_0000;
-    let top = h % 0x100_0000 * 0x100_0000_0000;
-    wrapping_add_u64(wrapping_add_u64(low, high), top)
+    h.wrapping_mul(0x100_0000_01b3)
 }
 
 // 64-bit FNV-1a.
 fn hash(bytes: &[u8]) -> u64 {
     let mut h: u64 = 0xcbf2_9ce4_8422_2325;
-    let mut i = 0;
-    while i < bytes.len() {
-        h = times_factor(h ^ wide(bytes[i]));
-        i += 1;
+    for b in bytes {
+        h = times_factor(h ^ wide(*b));
     }
     h
 }
@@ -56,7 +50,7 @@ fn bits(size: PointerSize) -> u64 {
     }
 }
 
-fn header_words(space: &mut [u8; SIZE], at: &mut usize, h: Header) {
+fn header_words(out: &mut Output, h: Header) {
     let format = h.format;
     let size = h.pointer_size;
     let order = h.endianness;
@@ -64,8 +58,7 @@ fn header_words(space: &mut [u8; SIZE], at: &mut usize, h: Header) {
     let major = version.major as u64;
     let minor = version.minor as u64;
     line(
-        space,
-        at,
+        out,
         b" ~ # ~ # #",
         &[
             format_word(format),
@@ -77,44 +70,41 @@ fn header_words(space: &mut [u8; SIZE], at: &mut usize, h: Header) {
     );
 }
 
-fn view_words(space: &mut [u8; SIZE], at: &mut usize, file: &[u8], table: &[u64], row: usize) {
+fn view_words(out: &mut Output, file: &[u8], table: &[u64], row: usize) {
     match view(file, table, row) {
-        ViewAnswer::There => line(space, at, b" %\n", &[hash(view_part(file, table, row))]),
-        ViewAnswer::Refused(_) => text(space, at, b" view 13\n"),
+        ViewAnswer::There => line(out, b" %\n", &[hash(view_part(file, table, row))]),
+        ViewAnswer::Refused(_) => text(out, b" view 13\n"),
     }
 }
 
-fn row_line(space: &mut [u8; SIZE], at: &mut usize, file: &[u8], table: &[u64], row: usize) {
+fn row_line(out: &mut Output, file: &[u8], table: &[u64], row: usize) {
     if row < table.len() / Row::NUMBERS {
         let from = row * Row::NUMBERS;
         let to = from + Row::NUMBERS;
-        line(space, at, b"row @ # # # # # #", &table[from..to]);
+        line(out, b"row @ # # # # # #", &table[from..to]);
     }
-    view_words(space, at, file, table, row);
+    view_words(out, file, table, row);
 }
 
-fn row_lines(space: &mut [u8; SIZE], at: &mut usize, file: &[u8], table: &[u64], rows: usize) {
-    let mut row = 0;
-    while row < rows {
-        row_line(space, at, file, table, row);
-        row += 1;
+fn row_lines(out: &mut Output, file: &[u8], table: &[u64], rows: usize) {
+    for row in 0..rows {
+        row_line(out, file, table, row);
     }
 }
 
-fn read_lines(space: &mut [u8; SIZE], at: &mut usize, file: &[u8], table: &[u64], b: RawBlend) {
+fn read_lines(out: &mut Output, file: &[u8], table: &[u64], b: RawBlend) {
     let h = b.header;
     let n = b.dna;
     let rows = b.rows as u64;
     let end = b.end as u64;
-    text(space, at, b"file");
-    header_words(space, at, h);
+    text(out, b"file");
+    header_words(out, h);
     line(
-        space,
-        at,
+        out,
         b" # # # # # #\n",
         &[rows, end, n.names, n.types, n.structs, n.fields],
     );
-    row_lines(space, at, file, table, b.rows);
+    row_lines(out, file, table, b.rows);
 }
 
 fn is_row(table: &[u64], row: usize, r: Row) -> bool {
@@ -190,8 +180,7 @@ fn is_refused(place: Place, file: &[u8], fault: Fault) -> bool {
 // Whether a walk gives the table's first rows, and then the end.
 fn walk_ends(file: &[u8], table: &[u64], rows: usize, end: usize) -> bool {
     let mut place = Place::start();
-    let mut row = 0;
-    while row < rows {
+    for row in 0..rows {
         match place.step(file) {
             Step::Block(r, next) => {
                 if !is_row(table, row, r) {
@@ -203,7 +192,6 @@ fn walk_ends(file: &[u8], table: &[u64], rows: usize, end: usize) -> bool {
                 return false;
             }
         }
-        row += 1;
     }
     ends(place, file, end)
 }
@@ -226,54 +214,54 @@ fn walk_is_refused(file: &[u8], fault: Fault) -> bool {
     false
 }
 
-fn walk_line(space: &mut [u8; SIZE], at: &mut usize, as_read: bool) {
+fn walk_line(out: &mut Output, as_read: bool) {
     if !as_read {
-        text(space, at, b"walk differs\n");
+        text(out, b"walk differs\n");
     }
 }
 
 // A refusal's number and, of 16 and 17, the offset that it carries.
-pub fn refused(space: &mut [u8; SIZE], at: &mut usize, f: Fault) {
+pub fn refused(out: &mut Output, f: Fault) {
     match f {
-        Fault::Refusal(n) => line(space, at, b"refused #", &[n]),
-        _ => line(space, at, b"refused # #", &[f.refusal(), f.place() as u64]),
+        Fault::Refusal(n) => line(out, b"refused #", &[n]),
+        _ => line(out, b"refused # #", &[f.refusal(), f.place() as u64]),
     }
 }
 
-pub fn refused_line(space: &mut [u8; SIZE], at: &mut usize, f: Fault) {
-    refused(space, at, f);
-    text(space, at, b"\n");
+pub fn refused_line(out: &mut Output, f: Fault) {
+    refused(out, f);
+    text(out, b"\n");
 }
 
-pub fn too_short_line(space: &mut [u8; SIZE], at: &mut usize, rows: usize) {
-    line(space, at, b"refused 7 #\n", &[rows as u64]);
+pub fn too_short_line(out: &mut Output, rows: usize) {
+    line(out, b"refused 7 #\n", &[rows as u64]);
 }
 
-pub fn answer(space: &mut [u8; SIZE], at: &mut usize, file: &[u8]) {
+pub fn answer(out: &mut Output, file: &[u8]) {
     let mut table = [0u64; NUMBERS];
     match blend(file, &mut table) {
         BlendAnswer::Is(b) => {
-            read_lines(space, at, file, &table, b);
-            walk_line(space, at, walk_ends(file, &table, b.rows, b.end));
+            read_lines(out, file, &table, b);
+            walk_line(out, walk_ends(file, &table, b.rows, b.end));
         }
         BlendAnswer::Refused(f) => {
-            refused_line(space, at, f);
-            walk_line(space, at, walk_is_refused(file, f));
+            refused_line(out, f);
+            walk_line(out, walk_is_refused(file, f));
         }
-        BlendAnswer::TableTooShort(rows) => too_short_line(space, at, rows),
+        BlendAnswer::TableTooShort(rows) => too_short_line(out, rows),
     }
 }
 
-fn header_line(space: &mut [u8; SIZE], at: &mut usize, h: Header, length: usize) {
-    text(space, at, b"header");
-    header_words(space, at, h);
-    line(space, at, b" #\n", &[length as u64]);
+fn header_line(out: &mut Output, h: Header, length: usize) {
+    text(out, b"header");
+    header_words(out, h);
+    line(out, b" #\n", &[length as u64]);
 }
 
 // A header by itself.
-pub fn header_answer(space: &mut [u8; SIZE], at: &mut usize, bytes: &[u8]) {
+pub fn header_answer(out: &mut Output, bytes: &[u8]) {
     match header(bytes) {
-        HeaderAnswer::Is(h, length) => header_line(space, at, h, length),
-        HeaderAnswer::Refused(f) => refused_line(space, at, f),
+        HeaderAnswer::Is(h, length) => header_line(out, h, length),
+        HeaderAnswer::Refused(f) => refused_line(out, f),
     }
 }

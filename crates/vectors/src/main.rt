@@ -25,33 +25,34 @@
 mod address;
 mod catalogue;
 mod declarator;
+mod digits;
 mod examples;
 mod file;
 mod out;
 mod values;
 
-ghost use Rattle.std.specs.Prelude.{◌≤◌};
+ghost use Rattle.std.specs.Prelude.{◌≤◌, length};
 
 use octets::Endianness;
-use libc::STDIN_FILENO;
-use out::{CLOSED, SIZE, text};
+use out::{Output, is_open, text};
 use primitive::primitive::{ValueU32, parse_u32};
+use std::io::Read;
 
 // How long an input may be.
 const LONGEST: usize = 131072;
 
-fn answer(space: &mut [u8; SIZE], at: &mut usize, kind: u8, bytes: &[u8]) {
+fn answer(out: &mut Output, kind: u8, bytes: &[u8]) {
     match kind {
-        b'F' => file::answer(space, at, bytes),
-        b'H' => file::header_answer(space, at, bytes),
-        b'D' => declarator::answer(space, at, bytes),
-        b'f' => declarator::function_answer(space, at, bytes),
-        b'C' => catalogue::answer(space, at, bytes, Endianness::Little),
-        b'c' => catalogue::answer(space, at, bytes, Endianness::Big),
-        b'P' => values::answer(space, at, bytes),
-        b'N' => values::names_answer(space, at),
-        b'A' => address::answer(space, at, bytes),
-        _ => text(space, at, b"bad-kind\n"),
+        b'F' => file::answer(out, bytes),
+        b'H' => file::header_answer(out, bytes),
+        b'D' => declarator::answer(out, bytes),
+        b'f' => declarator::function_answer(out, bytes),
+        b'C' => catalogue::answer(out, bytes, Endianness::Little),
+        b'c' => catalogue::answer(out, bytes, Endianness::Big),
+        b'P' => values::answer(out, bytes),
+        b'N' => values::names_answer(out),
+        b'A' => address::answer(out, bytes),
+        _ => text(out, b"bad-kind\n"),
     }
 }
 
@@ -81,17 +82,31 @@ fn least(a: usize, b: usize) -> usize
     if a < b { a } else { b }
 }
 
+// Reads until the buffer is full, the input ends or a read fails, and answers how many bytes came.
+fn read_full(input: &mut impl Read, buffer: &mut [u8]) -> usize
+    ensures { result ≤ length buffer.new }
+{
+    let mut done = 0;
+    while done < buffer.len() {
+        match input.read(&mut buffer[done..]) {
+            Ok(0) | Err(_) => break,
+            Ok(n) => done += n,
+        }
+    }
+    done
+}
+
 // Reads so many bytes to the start of the buffer, as far as it goes, and answers how many came.
-fn read_some(buffer: &mut [u8], n: usize) -> usize {
+fn read_some(input: &mut impl Read, buffer: &mut [u8], n: usize) -> usize {
     let most = least(n, buffer.len());
-    io::read_full(STDIN_FILENO, &mut buffer[0..most])
+    read_full(input, &mut buffer[0..most])
 }
 
 // Reads past so many bytes. Whether they were there.
-fn skip(buffer: &mut [u8], n: usize) -> bool {
+fn skip(input: &mut impl Read, buffer: &mut [u8], n: usize) -> bool {
     let mut left = n;
     while 0 < left {
-        let got = read_some(buffer, left);
+        let got = read_some(input, buffer, left);
         if got == 0 {
             return false;
         }
@@ -103,17 +118,17 @@ fn skip(buffer: &mut [u8], n: usize) -> bool {
     true
 }
 
-fn skipped(buffer: &mut [u8], len: usize) -> Record {
-    if skip(buffer, len) {
+fn skipped(input: &mut impl Read, buffer: &mut [u8], len: usize) -> Record {
+    if skip(input, buffer, len) {
         Record::TooLong
     } else {
         Record::Cut
     }
 }
 
-fn read_record(buffer: &mut [u8]) -> Record {
+fn read_record(input: &mut impl Read, buffer: &mut [u8]) -> Record {
     let mut head = [0u8; 5];
-    let n = io::read_full(STDIN_FILENO, &mut head);
+    let n = read_full(input, &mut head);
     if n == 0 {
         return Record::End;
     }
@@ -123,35 +138,35 @@ fn read_record(buffer: &mut [u8]) -> Record {
     let kind = head[0];
     let len = length(&head);
     if buffer.len() < len {
-        return skipped(buffer, len);
+        return skipped(input, buffer, len);
     }
-    if read_some(buffer, len) < len {
+    if read_some(input, buffer, len) < len {
         return Record::Cut;
     }
     Record::Is(kind, len)
 }
 
 // Ends an answer. Whether the output takes more.
-fn ended(space: &mut [u8; SIZE], at: &mut usize) -> bool {
-    text(space, at, b".\n");
-    *at != CLOSED
+fn ended(out: &mut Output) -> bool {
+    text(out, b".\n");
+    is_open(out)
 }
 
 // Answers the next record. Whether there may be another.
-fn next(space: &mut [u8; SIZE], at: &mut usize, buffer: &mut [u8]) -> bool {
-    match read_record(buffer) {
+fn next(out: &mut Output, input: &mut impl Read, buffer: &mut [u8]) -> bool {
+    match read_record(input, buffer) {
         Record::End => false,
         Record::Cut => {
-            text(space, at, b"cut\n");
+            text(out, b"cut\n");
             false
         }
         Record::TooLong => {
-            text(space, at, b"too long\n");
-            ended(space, at)
+            text(out, b"too long\n");
+            ended(out)
         }
         Record::Is(kind, len) => if len <= buffer.len() {
-            answer(space, at, kind, &buffer[0..len]);
-            ended(space, at)
+            answer(out, kind, &buffer[0..len]);
+            ended(out)
         } else {
             false
         },
@@ -159,21 +174,18 @@ fn next(space: &mut [u8; SIZE], at: &mut usize, buffer: &mut [u8]) -> bool {
 }
 
 // All records; the number of turns only bounds the loop.
-fn batch(space: &mut [u8; SIZE], at: &mut usize, buffer: &mut [u8]) {
-    let mut turns: u64 = 0xffff_ffff_ffff;
-    while 0 < turns {
-        if !next(space, at, buffer) {
+fn batch(out: &mut Output, input: &mut impl Read, buffer: &mut [u8]) {
+    for _ in 0..0xffff_ffff_ffffu64 {
+        if !next(out, input, buffer) {
             return;
         }
-        turns -= 1;
     }
 }
 
-fn main() {
-    let mut space = [0u8; SIZE];
-    let mut at: usize = 0;
+fn main(rt: HostRuntime) {
+    let mut out = Output::new(rt.stdout());
     let mut buffer = [0u8; LONGEST];
-    examples::answer(&mut space, &mut at, &mut buffer);
-    batch(&mut space, &mut at, &mut buffer);
-    out::flush(&space, &mut at);
+    examples::answer(&mut out, &rt, &mut buffer);
+    batch(&mut out, &mut rt.stdin(), &mut buffer);
+    out::flush(&mut out);
 }

@@ -1,54 +1,77 @@
-// Standard output by way of a buffer. Each function takes the buffer and the place in it up to which it is filled.
-use libc::STDOUT_FILENO;
+// Standard output by way of a buffer.
+use crate::digits::{decimal_digits, hex_digits};
+use std::io::Stdout;
 
-pub const SIZE: usize = 65536;
+const SIZE: usize = 65536;
 
 // A place past the buffer: the output took no more bytes, and what comes after is dropped.
-pub const CLOSED: usize = SIZE + 1;
+const CLOSED: usize = SIZE + 1;
 
-// Writes what the buffer has.
-pub fn flush(space: &[u8; SIZE], at: &mut usize) {
-    let n = *at;
-    if n <= SIZE {
-        let all = &space[..];
-        if io::write_all(STDOUT_FILENO, &all[0..n]) {
-            *at = 0;
-        } else {
-            *at = CLOSED;
+// The buffer, the place in it up to which it is filled, and where it is written to.
+#[derive(Drop)]
+pub struct Output {
+    space: [u8; SIZE],
+    at: usize,
+    to: Stdout,
+}
+
+impl Output {
+    pub fn new(to: Stdout) -> Output {
+        Output {
+            space: [0; SIZE],
+            at: 0,
+            to,
         }
     }
 }
 
-pub fn byte(space: &mut [u8; SIZE], at: &mut usize, b: u8) {
-    if *at == SIZE {
-        flush(space, at);
+// Writes what the buffer has.
+pub fn flush(out: &mut Output) {
+    let n = out.at;
+    if n <= SIZE {
+        out.at = match out.to.write_all(&out.space[..n]) {
+            Ok(()) => 0,
+            Err(_) => CLOSED,
+        };
     }
-    let n = *at;
+}
+
+// Whether the output takes more.
+pub fn is_open(out: &Output) -> bool {
+    out.at != CLOSED
+}
+
+pub fn byte(out: &mut Output, b: u8) {
+    if out.at == SIZE {
+        flush(out);
+    }
+    let n = out.at;
     if n < SIZE {
-        space[n] = b;
-        *at = n + 1;
+        out.space[n] = b;
+        out.at = n + 1;
     }
 }
 
-pub fn text(space: &mut [u8; SIZE], at: &mut usize, s: &[u8]) {
-    let mut i = 0;
-    while i < s.len() {
-        byte(space, at, s[i]);
-        i += 1;
+pub fn text(out: &mut Output, s: &[u8]) {
+    for b in s {
+        byte(out, *b);
     }
 }
 
-fn decimal(space: &mut [u8; SIZE], at: &mut usize, n: u64) {
-    let mut digits = [0u8; 20];
-    let k = io::decimal(n, &mut digits);
-    text(space, at, &digits[..k]);
+fn decimal(out: &mut Output, n: u64) {
+    let mut digits = [0u8; 64];
+    let start = decimal_digits(n, &mut digits);
+    text(out, &digits[start..]);
 }
 
 // At least so many hex digits.
-fn hex(space: &mut [u8; SIZE], at: &mut usize, n: u64, width: usize) {
-    let mut digits = [0u8; 16];
-    let k = io::hex(n, width, &mut digits);
-    text(space, at, &digits[..k]);
+fn hex(out: &mut Output, n: u64, width: usize) {
+    let mut digits = [0u8; 64];
+    let start = hex_digits(n, &mut digits);
+    for _ in 64 - start..width {
+        byte(out, b'0');
+    }
+    text(out, &digits[start..]);
 }
 
 pub fn wide(b: u8) -> u64 {
@@ -56,11 +79,9 @@ pub fn wide(b: u8) -> u64 {
 }
 
 // Each byte as two hex digits.
-pub fn bytes(space: &mut [u8; SIZE], at: &mut usize, s: &[u8]) {
-    let mut i = 0;
-    while i < s.len() {
-        hex(space, at, wide(s[i]), 2);
-        i += 1;
+pub fn bytes(out: &mut Output, s: &[u8]) {
+    for b in s {
+        hex(out, wide(*b), 2);
     }
 }
 
@@ -73,12 +94,12 @@ pub const LITTLE: u64 = 2;
 
 pub const BIG: u64 = 3;
 
-fn word(space: &mut [u8; SIZE], at: &mut usize, n: u64) {
+fn word(out: &mut Output, n: u64) {
     match n {
-        LEGACY => text(space, at, b"legacy"),
-        NEW => text(space, at, b"new"),
-        LITTLE => text(space, at, b"little"),
-        _ => text(space, at, b"big"),
+        LEGACY => text(out, b"legacy"),
+        NEW => text(out, b"new"),
+        LITTLE => text(out, b"little"),
+        _ => text(out, b"big"),
     }
 }
 
@@ -91,41 +112,36 @@ fn is_place(form: u8) -> bool {
     }
 }
 
-pub fn number(space: &mut [u8; SIZE], at: &mut usize, form: u8, n: u64) {
+pub fn number(out: &mut Output, form: u8, n: u64) {
     match form {
-        b'#' => decimal(space, at, n),
-        b'~' => word(space, at, n),
-        b'$' => hex(space, at, n, 2),
-        b'@' => hex(space, at, n, 8),
-        b'%' => hex(space, at, n, 16),
+        b'#' => decimal(out, n),
+        b'~' => word(out, n),
+        b'$' => hex(out, n, 2),
+        b'@' => hex(out, n, 8),
+        b'%' => hex(out, n, 16),
         _ => {}
     }
 }
 
 // A form, with the numbers in their places.
-pub fn line(space: &mut [u8; SIZE], at: &mut usize, form: &[u8], numbers: &[u64]) {
-    let mut i = 0;
+pub fn line(out: &mut Output, form: &[u8], numbers: &[u64]) {
     let mut k = 0;
-    while i < form.len() {
-        let b = form[i];
-        if is_place(b) {
+    for b in form {
+        if is_place(*b) {
             if k < numbers.len() {
-                number(space, at, b, numbers[k]);
+                number(out, *b, numbers[k]);
                 k += 1;
             }
         } else {
-            byte(space, at, b);
+            byte(out, *b);
         }
-        i += 1;
     }
 }
 
 // A space and a number, for each.
-pub fn words(space: &mut [u8; SIZE], at: &mut usize, numbers: &[u64]) {
-    let mut i = 0;
-    while i < numbers.len() {
-        byte(space, at, b' ');
-        decimal(space, at, numbers[i]);
-        i += 1;
+pub fn words(out: &mut Output, numbers: &[u64]) {
+    for n in numbers {
+        byte(out, b' ');
+        decimal(out, *n);
     }
 }

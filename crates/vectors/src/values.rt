@@ -1,5 +1,5 @@
 // Primitive values: a slice read as each kind, in both orders; and the kinds' names.
-use crate::out::{BIG, LITTLE, SIZE, byte, number, text};
+use crate::out::{BIG, LITTLE, Output, byte, number, text};
 use octets::Endianness;
 use primitive::primitive::{
     Name, ValueF32, ValueF64, ValueI8, ValueI16, ValueI32, ValueI64, ValueU8, ValueU16, ValueU32,
@@ -159,23 +159,20 @@ fn name(kind: usize) -> Name {
 }
 
 // The word that stands at a place of a list of words, with the space after it.
-fn word(space: &mut [u8; SIZE], at: &mut usize, all: &[u8], from: usize) {
-    let mut i = from;
-    while i < all.len() {
+fn word(out: &mut Output, all: &[u8], from: usize) {
+    for i in from..all.len() {
         let b = all[i];
-        byte(space, at, b);
+        byte(out, b);
         if b == b' ' {
             return;
         }
-        i += 1;
     }
 }
 
-fn kind_word(space: &mut [u8; SIZE], at: &mut usize, kind: usize) {
+fn kind_word(out: &mut Output, kind: usize) {
     if kind < KINDS {
         word(
-            space,
-            at,
+            out,
             b"u8   char i8   u16  i16  u32  i32  u64  i64  f32  f64  ",
             kind * 5,
         );
@@ -189,56 +186,52 @@ pub fn order_word(order: Endianness) -> u64 {
     }
 }
 
-fn value_words(space: &mut [u8; SIZE], at: &mut usize, v: Value) {
+fn value_words(out: &mut Output, v: Value) {
     match v {
-        Value::Number(n) => number(space, at, b'#', n),
+        Value::Number(n) => number(out, b'#', n),
         Value::Below(n) => {
-            byte(space, at, b'-');
-            number(space, at, b'#', n);
+            byte(out, b'-');
+            number(out, b'#', n);
         }
-        Value::Bits32(n) => number(space, at, b'@', n),
-        Value::Bits64(n) => number(space, at, b'%', n),
-        Value::Short => text(space, at, b"refused 12"),
+        Value::Bits32(n) => number(out, b'@', n),
+        Value::Bits64(n) => number(out, b'%', n),
+        Value::Short => text(out, b"refused 12"),
     }
 }
 
-fn value_line(space: &mut [u8; SIZE], at: &mut usize, kind: usize, s: &[u8], order: Endianness) {
-    kind_word(space, at, kind);
-    number(space, at, b'~', order_word(order));
-    byte(space, at, b' ');
-    value_words(space, at, read(kind, s, order));
-    byte(space, at, b'\n');
+fn value_line(out: &mut Output, kind: usize, s: &[u8], order: Endianness) {
+    kind_word(out, kind);
+    number(out, b'~', order_word(order));
+    byte(out, b' ');
+    value_words(out, read(kind, s, order));
+    byte(out, b'\n');
 }
 
-fn value_lines(space: &mut [u8; SIZE], at: &mut usize, s: &[u8], order: Endianness) {
-    let mut kind = 0;
-    while kind < KINDS {
-        value_line(space, at, kind, s, order);
-        kind += 1;
+fn value_lines(out: &mut Output, s: &[u8], order: Endianness) {
+    for kind in 0..KINDS {
+        value_line(out, kind, s, order);
     }
 }
 
-pub fn answer(space: &mut [u8; SIZE], at: &mut usize, s: &[u8]) {
-    value_lines(space, at, s, Endianness::Little);
-    value_lines(space, at, s, Endianness::Big);
+pub fn answer(out: &mut Output, s: &[u8]) {
+    value_lines(out, s, Endianness::Little);
+    value_lines(out, s, Endianness::Big);
 }
 
-fn name_line(space: &mut [u8; SIZE], at: &mut usize, n: Name) {
+fn name_line(out: &mut Output, n: Name) {
     let bytes = n.bytes;
     let all = &bytes[..];
     let len = n.len;
     if len <= all.len() {
-        text(space, at, &all[0..len]);
+        text(out, &all[0..len]);
     }
-    byte(space, at, b'\n');
+    byte(out, b'\n');
 }
 
 // The names of the kinds.
-pub fn names_answer(space: &mut [u8; SIZE], at: &mut usize) {
-    let mut kind = 0;
-    while kind < KINDS {
-        kind_word(space, at, kind);
-        name_line(space, at, name(kind));
-        kind += 1;
+pub fn names_answer(out: &mut Output) {
+    for kind in 0..KINDS {
+        kind_word(out, kind);
+        name_line(out, name(kind));
     }
 }
