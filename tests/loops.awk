@@ -1,4 +1,4 @@
-# Which slices the loops of some compiled functions walk over. Reads what `rt mir` prints, a bracket or word to a line. For each function with a loop it prints
+# Which slices the loops of some compiled functions walk over. Reads what tests/mir prints, a bracket or word to a line. For each function with a loop it prints
 # `loop FUNCTION` and the numbers of the parameters that are slices over which the loop walks; `twice FUNCTION` where there are two loops, `calls FUNCTION` for one
 # that calls itself, alone or through others, and `form WORD` for a form that it does not know.
 #

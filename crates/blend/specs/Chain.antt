@@ -45,7 +45,7 @@ unfolding chain
 chain_from h s at = chain (suc (length s)) h s at Last.Other
 
 -- A file, given the tree that reads its header: the header comes first, and its refusal ends the reading. The tree is a parameter, so that another
--- reading of the header can stand beside `headerBytes`.
+-- reading of the header can stand beside `header_bytes`.
 pub record File : Type 0 where
   pub header : Header
   pub chain : Chain

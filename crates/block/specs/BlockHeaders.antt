@@ -52,7 +52,7 @@ abbrev pub paper_block_header : BlockHeaderRead → Paper
 paper_block_header r = told (λ b. b.code ∷ b.size ∷ b.address ∷ b.index ∷ b.count ∷ []) (block_header_read r)
 
 -- A block header all of which stands at a place: its code, and the numbers of its layout one after another. Its tree finds the same, unless the address is 0
--- (proofs/Layouts.antt, `header-there`).
+-- (proofs/Layouts.antt, `header_there`).
 abbrev pub tell_all : List Item → List ℕ → ℕ → BlockHeader → BlockHeader
 tell_all [] s at b = b
 tell_all (i ∷ is) s at b = tell_all is s (at + i.width) (tell i.field (number_at i.order i.width s at) b)

@@ -83,7 +83,7 @@ abbrev pub none : Row
 none = record { code = 0; address = 0; index = 0; count = 0; at = 0; payload = 0; len = 0 }
 
 -- The row of a block: what its header says, with its offsets. The payload starts where the tree of the block header ends (proofs/Layouts.antt,
--- `block-header-moves`), and the next boundary is where it ends (crates/blend/proofs/Rows.antt, `Lies`).
+-- `block_header_moves`), and the next boundary is where it ends (crates/blend/proofs/Rows.antt, `Lies`).
 abbrev pub row_of : Header → ℕ → BlockHeader → Row
 row_of h from b =
     record { code = b.code; address = b.address; index = b.index; count = b.count; at = from; payload = from + block_header_length h.format h.pointer_size; len = b.size }

@@ -11,7 +11,7 @@ use Rattle.block.specs.Rows.{rows_spelt}
 abbrev pub rows_in : List ℕ → ℕ → List Row
 rows_in t n = rows_spelt t n 0
 
--- What the demands need of the tree that reads the header, so that another tree can take the place of `headerBytes`: it takes the 12 or 17 bytes of its
+-- What the demands need of the tree that reads the header, so that another tree can take the place of `header_bytes`: it takes the 12 or 17 bytes of its
 -- edition, and what it finds depends on those alone.
 pub record HeaderTree (header : Reader HeaderBytes) : Type 0 where
   pub long : (s : List ℕ) (b : HeaderBytes) (end : ℕ) → run header s 0 ≡ read b end → end ≡ header_length b.format

@@ -46,7 +46,7 @@ All (e ∷ es) = Holds e × All es
 abbrev pub two_of_one : List ℕ
 two_of_one = ascii "BLENDER-v280" ++ (0 ∷ 0 ∷ 0 ∷ 0 ∷ 0 ∷ 0 ∷ 0 ∷ 0 ∷ 1 ∷ 0 ∷ 0 ∷ 0 ∷ 0 ∷ 0 ∷ 0 ∷ 0 ∷ 0 ∷ 0 ∷ 0 ∷ 0 ∷ 2 ∷ 0 ∷ 0 ∷ 0 ∷ [])
 
--- In the order of document 01, whose 2 is 16 or 17 with its place (request 3 of document 02). Of a declarator `toldAs` has the kind (0 value, 1 array, 3 pointer array, 4 function pointer), the name's place and length, the
+-- In the order of document 01, whose 2 is 16 or 17 with its place (request 3 of document 02). Of a declarator `told_as` has the kind (0 value, 1 array, 3 pointer array, 4 function pointer), the name's place and length, the
 -- rest's, and the kind's own numbers: indirection, length and number of dimensions, those it has.
 abbrev pub examples : List Example
 examples =

@@ -74,7 +74,7 @@ IndexAsPlain =
     → paper_found r ≡ paper_pointer q
 
 -- A broken name (request 2): "A declarator with a non-empty rest has no width", whatever its kind, and is refused by 15; where the rest is empty the width is what it was
--- before that request (`formerWidthAs`). Document 02's own example, "mat[4", is read, and has no width.
+-- before that request (`former_width_as`). Document 02's own example, "mat[4", is read, and has no width.
 pub record BrokenNames : Type 0 where
   pub whole : (d : Declarator) (size : ℕ) (p : PointerSize) (r : FieldWidth) → field.«field::width» d size p r → d.rest.len ≡ 0 → paper_width r ≡ former_width_as d size p
   pub broken : (d : Declarator) (size : ℕ) (p : PointerSize) (r : FieldWidth) → field.«field::width» d size p r → (d.rest.len ≡ 0 → ⊥) → paper_width r ≡ name_not_fully_read

@@ -1,4 +1,4 @@
--- Wrong readings, each in the place of `fileBy`: the demands do not hold of them (proofs/Wrong.antt).
+-- Wrong readings, each in the place of `file_by`: the demands do not hold of them (proofs/Wrong.antt).
 use Rattle.std.specs.Prelude.{ℕ, ◌-◌, true, false, List, [], ◌∷◌, map, eqb, get_or}
 use Rattle.octets.specs.declared.Fault.TheVariants.{Mark}
 use Rattle.octets.specs.Reader.{Reader, Outcome}

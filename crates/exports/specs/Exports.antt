@@ -241,7 +241,7 @@ found_out (integer z) = record { refusal = 0; buckets = 0; rows = 0; kind = 0; r
 found_out (real x) = record { refusal = 0; buckets = 0; rows = 0; kind = 0; row = 0 }
 found_out (refuses n vs) = record { refusal = n; buckets = get_or vs 0 0; rows = get_or vs 1 0; kind = 0; row = 0 }
 
--- The header that numbers stand for, for writing: those that `headerOut` hands out stand for that header. An edition that is neither 0 nor 1, pointer bytes that are neither
+-- The header that numbers stand for, for writing: those that `header_out` hands out stand for that header. An edition that is neither 0 nor 1, pointer bytes that are neither
 -- 4 nor 8, an order that is neither 0 nor 1 and a part of a version above 65,535 stand for nothing, and no form has room for them: the header is then one with a part of its
 -- version 65,535, so it is refused by 19 with the row count, after whatever comes before 19. Until then an edition but 0 counts as new, and pointer bytes and order as above.
 -- (proofs/Written.antt has both.)

@@ -19,7 +19,7 @@ use Rattle.field.specs.declared.field.ParsedField.{ParsedField}
 use Rattle.field.specs.declared.field.FnPointerField.{FnPointerField}
 use Rattle.field.specs.declared.field.FieldWidth.{FieldWidth}
 
--- where the first byte c from `at` on stands (where there is none: the end of s, or `at` itself past the end); `endedBy` says whether there is one
+-- where the first byte c from `at` on stands (where there is none: the end of s, or `at` itself past the end); `ended_by` says whether there is one
 abbrev pub first : ℕ → List ℕ → ℕ → ℕ
 first c s at = at + before c (drop at s)
 

@@ -26,7 +26,7 @@ former_width_as d size p =
     elim (leb (former_bytes d.kind size p) (2 ^ 64 - 1)) [ true ↦ accepts 0 (former_bytes d.kind size p ∷ []) | false ↦ refuses 10 [] ]
 
 -- `fn_pointer` before request 3, when it answered 2, malformed, wherever the bytes are no function pointer (`WhereTwoWas` in crates/demands/specs/Malformed.antt). Where the `)`
--- after the name stands, and the `)` after the second part; both count only where `isFunction` holds.
+-- after the name stands, and the `)` after the second part; both count only where `is_function` holds.
 abbrev pub closed_from : List ℕ → ℕ → ℕ
 closed_from s at = at + before (code ")") (drop at s)
 

@@ -120,7 +120,7 @@ unfolding parts_read
 new = parts_read (parts New) (untold New Bits32)
 
 -- The first 7 bytes are "BLENDER", else refusal 1 (also when fewer are there). If the next byte is `_` or `-`, which stand for
--- what `pointerMark` says, the file is Legacy, otherwise New.
+-- what `pointer_mark` says, the file is Legacy, otherwise New.
 unfoldable pub header_bytes : Reader HeaderBytes
 unfolding legacy new
 header_bytes = begins magic (begins (ascii "_") (legacy Bits32) (begins (ascii "-") (legacy Bits64) new)) (refuse compressed_file_not_supported)

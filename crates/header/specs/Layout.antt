@@ -32,7 +32,7 @@ abbrev pub layout : Header → List Item
 layout h = layout_of h.format (pointer_bytes h.pointer_size) h.endianness
 
 -- A block header's length: the code's 4 bytes and the widths of its layout, whatever the order. 20, 24, 28 or 32 bytes by edition and pointer size; as
--- many as its tree takes (crates/block/proofs/Layouts.antt, `block-header-moves`).
+-- many as its tree takes (crates/block/proofs/Layouts.antt, `block_header_moves`).
 abbrev pub widths : List Item → ℕ
 widths [] = 0
 widths (i ∷ is) = i.width + widths is

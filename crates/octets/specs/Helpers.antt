@@ -1,4 +1,4 @@
--- What helpers of the code ensure. No rule uses it but `number_at`, which `headerIn` of crates/block goes by.
+-- What helpers of the code ensure. No rule uses it but `number_at`, which `header_in` of crates/block goes by.
 use Rattle.std.specs.Prelude.{ℕ, zero, suc, ◌+◌, ◌/◌, ◌≤◌, List, [], ◌∷◌, take, drop, set}
 use Rattle.octets.specs.declared.Endianness.{Endianness}
 use Rattle.octets.specs.declared.Endianness.TheVariants.{Little, Big}

@@ -7,7 +7,7 @@ use Rattle.octets.specs.Paper.Paper.{accepts, refuses}
 use Rattle.octets.specs.Reader.{Outcome}
 use Rattle.octets.specs.Reader.Outcome.{read, fault}
 
--- Those that a reading tree or a chain gives are numbers here: a tree says `refuse unknownBlockCode`, and `paperFault` tells it. In the place of document 01's 2,
+-- Those that a reading tree or a chain gives are numbers here: a tree says `refuse unknown_block_code`, and `paper_fault` tells it. In the place of document 01's 2,
 -- malformed, stand 16, cut short, and 17, wrong mark (request 3 of document 02).
 abbrev pub compressed_file_not_supported : ℕ
 compressed_file_not_supported = 1

@@ -24,8 +24,8 @@ use Rattle.writable.specs.declared.writable.Judged.{Judged}
 use Rattle.writable.specs.declared.writable.Needed.{Needed}
 
 -- A row's payload, as the reader takes it: first the code (5, and 4 where a Principal's count is not 1), then the catalogue of a DNA1 (16 and 17, counted from the
--- payload's start). What is found is what the row is if it is the last one. ENDB and numbers over 2^32-1 are no block codes, so they are 5 (`mark-unknown` and
--- `large-unknown` in crates/block/proofs/Codes.antt).
+-- payload's start). What is found is what the row is if it is the last one. ENDB and numbers over 2^32-1 are no block codes, so they are 5 (`mark_unknown` and
+-- `large_unknown` in crates/block/proofs/Codes.antt).
 unfoldable pub as_last : Endianness → (code count : ℕ) → Reader Last
 unfolding then
 as_last e code count =
