@@ -1,4 +1,4 @@
-/* Reading and writing .blend files: the functions of libexports.a (x86-64 Linux, the C calling convention).
+/* Reading and writing .blend files: the functions of libexports.a (x86-64-v2 Linux, the C calling convention).
  *
  * A slice goes in as a pointer and the number of its elements, which must be there. For any bytes in them, and any other numbers, every function returns; none keeps a
  * pointer, allocates, or writes anywhere but in the tables and the output that it is lent to write in, which may be uninitialised. No pointer may be null, also not that
