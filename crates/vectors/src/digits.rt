@@ -14,35 +14,18 @@ fn digit(d: u64) -> u8
     }
 }
 
-// Puts the decimal digits of a number at the end of an array, and answers where they start.
-pub fn decimal_digits(n: u64, into: &mut [u8; 64]) -> usize
+// Puts the digits of a number in a base at the end of an array, and answers where they start.
+pub fn put_digits(n: u64, base: u64, into: &mut [u8; 64]) -> usize
+    requires { (2 ≤ base) × (base ≤ 16) }
     ensures bound { result ≤ 64 }
-    ensures value { drop result into.new ≡ digits 10 false n }
+    ensures value { drop result into.new ≡ digits base false n }
 {
     let mut start = 64;
     let mut rest = n;
     while 0 < start {
         start -= 1;
-        into[start] = digit(rest % 10);
-        rest /= 10;
-        if rest == 0 {
-            break;
-        }
-    }
-    start
-}
-
-// The same in hex.
-pub fn hex_digits(n: u64, into: &mut [u8; 64]) -> usize
-    ensures bound { result ≤ 64 }
-    ensures value { drop result into.new ≡ digits 16 false n }
-{
-    let mut start = 64;
-    let mut rest = n;
-    while 0 < start {
-        start -= 1;
-        into[start] = digit(rest % 16);
-        rest /= 16;
+        into[start] = digit(rest % base);
+        rest /= base;
         if rest == 0 {
             break;
         }

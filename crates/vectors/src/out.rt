@@ -1,5 +1,5 @@
 // Standard output by way of a buffer.
-use crate::digits::{decimal_digits, hex_digits};
+use crate::digits::put_digits;
 use std::io::Stdout;
 
 const SIZE: usize = 65536;
@@ -60,14 +60,14 @@ pub fn text(out: &mut Output, s: &[u8]) {
 
 fn decimal(out: &mut Output, n: u64) {
     let mut digits = [0u8; 64];
-    let start = decimal_digits(n, &mut digits);
+    let start = put_digits(n, 10, &mut digits);
     text(out, &digits[start..]);
 }
 
 // At least so many hex digits.
 fn hex(out: &mut Output, n: u64, width: usize) {
     let mut digits = [0u8; 64];
-    let start = hex_digits(n, &mut digits);
+    let start = put_digits(n, 16, &mut digits);
     for _ in 64 - start..width {
         byte(out, b'0');
     }
