@@ -1,4 +1,5 @@
 -- Laws of the chain: each block moves on, enough boundaries are always left, and the rows are those that the second pass goes over again.
+use Rattle.std.specs.Prelude.{Result, Ok, Err, Option, None}
 use Prim.Native.Nat.{ℕ, zero, suc, ◌+◌, ◌-◌, ◌≤◌, ◌<◌}
 use mathlib.Core.Bool.{Bool, true, false}
 use mathlib.Core.List.{List, [], ◌∷◌, ◌++◌}
@@ -16,10 +17,9 @@ use Rattle.octets.proofs.Tests.{held, failed}
 use Rattle.dna.specs.Catalogue.{Dna, catalogue}
 use Rattle.header.specs.declared.Header.{Header}
 use Rattle.block.specs.declared.Row.{Row}
-use Rattle.blend.specs.declared.blend.Last.{Last}
+use Rattle.dna.specs.declared.dna.DnaCounts.{DnaCounts}
 use Rattle.blend.specs.declared.blend.Pass.{Pass}
 use Rattle.blend.specs.declared.blend.Boundary.{Boundary}
-use Rattle.blend.specs.declared.blend.Chained.{Chained}
 use Rattle.block.specs.Kinds.{kind_of}
 use Rattle.blend.specs.Blocks.{is_dna, row_at, catalogued, finished, on_row, boundary_of}
 use Rattle.block.specs.Rows.{payload_of, row_numbers, row_table}
@@ -30,26 +30,26 @@ use Rattle.block.proofs.Layouts.{code-cut}
 use Rattle.blend.proofs.Rows.{Lies, row_lies, row-no_header, boundary_stops}
 
 -- a block at a boundary has its row
-module _ (h : Header) (s : List ℕ) (at : ℕ) (r : Row) (l : Last) (next : ℕ) where
-  catalogued-row : (q : Row) (n : ℕ) (o : Outcome Dna) → catalogued q n o ≡ Boundary.Block r l next → (q ≡ r) × (n ≡ next)
+module _ (h : Header) (s : List ℕ) (at : ℕ) (r : Row) (l : Option DnaCounts) (next : ℕ) where
+  catalogued-row : (q : Row) (n : ℕ) (o : Outcome Dna) → catalogued q n o ≡ Ok (Boundary.Block r l next) → (q ≡ r) × (n ≡ next)
   catalogued-row q n (read d end) e = (cc, cc)
   catalogued-row q n (fault x) e = (cc, cc)
 
-  finished-row : (q : Row) (n : ℕ) → finished h s q n ≡ Boundary.Block r l next → (q ≡ r) × (n ≡ next)
+  finished-row : (q : Row) (n : ℕ) → finished h s q n ≡ Ok (Boundary.Block r l next) → (q ≡ r) × (n ≡ next)
   unfolding finished
   finished-row q n e = go (is_dna (kind_of q.code)) refl
     where
       go : (t : Bool) → is_dna (kind_of q.code) ≡ t → (q ≡ r) × (n ≡ next)
       go true u = catalogued-row q n (run (catalogue h.endianness) (payload_of s q) 0) (sym (held _ _ u) ∙ e)
       go false u =
-          let g : Boundary.Block q Last.Other n ≡ Boundary.Block r l next = sym (failed _ _ u) ∙ e in
+          let g : (Ok (Boundary.Block q None n)) ≡ (Ok (Boundary.Block r l next)) = sym (failed _ _ u) ∙ e in
           (cc, cc)
 
-  pub block_row : boundary_of h s at ≡ Boundary.Block r l next → row_at h s at ≡ read r next
+  pub block_row : boundary_of h s at ≡ Ok (Boundary.Block r l next) → row_at h s at ≡ read r next
   unfolding boundary_of
   block_row e = go (stands s at (ascii "ENDB")) refl
     where
-      by : (o : Outcome Row) → row_at h s at ≡ o → on_row h s o ≡ Boundary.Block r l next → o ≡ read r next
+      by : (o : Outcome Row) → row_at h s at ≡ o → on_row h s o ≡ Ok (Boundary.Block r l next) → o ≡ read r next
       by (read q n) u g =
           let w = finished-row q n g in
           rw (w.0, w.1) refl
@@ -57,26 +57,26 @@ module _ (h : Header) (s : List ℕ) (at : ℕ) (r : Row) (l : Last) (next : ℕ
 
       go : (t : Bool) → stands s at (ascii "ENDB") ≡ t → row_at h s at ≡ read r next
       go true u =
-          let g : Boundary.EndMark ≡ Boundary.Block r l next = sym (held _ _ u) ∙ e in
+          let g : (Ok Boundary.EndMark) ≡ (Ok (Boundary.Block r l next)) = sym (held _ _ u) ∙ e in
           cc
       go false u = by (row_at h s at) refl (sym (failed _ _ u) ∙ e)
 
-  pub block_lies : boundary_of h s at ≡ Boundary.Block r l next → Lies h s at r next
+  pub block_lies : boundary_of h s at ≡ Ok (Boundary.Block r l next) → Lies h s at r next
   block_lies e = row_lies h s at r next (block_row e)
 
 -- the next boundary is further on, and in the file
-pub block_moves : (h : Header) (s : List ℕ) (at : ℕ) (r : Row) (l : Last) (next : ℕ) → boundary_of h s at ≡ Boundary.Block r l next → (at + 20 ≤ next) × (next ≤ length s)
+pub block_moves : (h : Header) (s : List ℕ) (at : ℕ) (r : Row) (l : Option DnaCounts) (next : ℕ) → boundary_of h s at ≡ Ok (Boundary.Block r l next) → (at + 20 ≤ next) × (next ≤ length s)
 block_moves h s at r l next e =
     let w = block_lies h s at r l next e in
     (omega (arith, w.header, w.payload, header_at-least h.format h.pointer_size), w.inside)
 
 -- nothing is read where there is no room for a code
-pub code-stops : (h : Header) (s : List ℕ) (at : ℕ) → length s < at + 4 → boundary_of h s at ≡ Boundary.Stopped (Cut at)
+pub code-stops : (h : Header) (s : List ℕ) (at : ℕ) → length s < at + 4 → boundary_of h s at ≡ Err (Cut at)
 code-stops h s at k =
     sym (boundary_stops h s at (sym (stands-cut s at (ascii "ENDB") (λ z. absurd (omega arith)) k)) (Cut at)
     (row-no_header h s at (Cut at) (code-cut h s at k)))
 
-pub end-stops : (h : Header) (s : List ℕ) (at : ℕ) → length s ≤ at → boundary_of h s at ≡ Boundary.Stopped (Cut at)
+pub end-stops : (h : Header) (s : List ℕ) (at : ℕ) → length s ≤ at → boundary_of h s at ≡ Err (Cut at)
 end-stops h s at e = code-stops h s at (omega arith)
 
 -- Fuel: where more boundaries are left than bytes, one more can be taken off, and any number that is enough gives the same.
@@ -85,18 +85,18 @@ module _ (h : Header) (s : List ℕ) where
   one_less zero at e g = absurd (omega arith)
   one_less (suc k) at e g = (k, refl)
 
-  pub enough : (n m at : ℕ) (last : Last) → length s < at + n → length s < at + m → at ≤ length s → chain n h s at last ≡ chain m h s at last
+  pub enough : (n m at : ℕ) (last : Option DnaCounts) → length s < at + n → length s < at + m → at ≤ length s → chain n h s at last ≡ chain m h s at last
   unfolding chain
   enough zero m at last e g i = absurd (omega arith)
   enough (suc n) zero at last e g i = absurd (omega arith)
   enough (suc n) (suc m) at last e g i = go (boundary_of h s at) refl (λ next l. enough n m next l)
     where
-      go : (b : Boundary) → boundary_of h s at ≡ b
-          → ((next : ℕ) (l : Last) → length s < next + n → length s < next + m → next ≤ length s → chain n h s next l ≡ chain m h s next l)
+      go : (b : Result Boundary Fault) → boundary_of h s at ≡ b
+          → ((next : ℕ) (l : Option DnaCounts) → length s < next + n → length s < next + m → next ≤ length s → chain n h s next l ≡ chain m h s next l)
           → link b last at (chain n h s) ≡ link b last at (chain m h s)
-      go Boundary.EndMark t f = refl
-      go (Boundary.Stopped x) t f = refl
-      go (Boundary.Block r l next) t f =
+      go (Ok Boundary.EndMark) t f = refl
+      go (Err x) t f = refl
+      go (Ok (Boundary.Block r l next)) t f =
           let w = block_moves h s at r l next t in
           ap (λ (c : Chain). record { rows = r ∷ c.rows; last = c.last }) (f next l (omega (arith, w.0)) (omega (arith, w.0)) w.1)
 
@@ -109,7 +109,7 @@ pub record Counting (h : Header) (s : List ℕ) (from : ℕ) (p : Pass) : Type 0
   pub same : summed 0 (chain_from h s from) ≡ summed p.rows (chain fuel h s p.at p.last)
 
 module _ (h : Header) (s : List ℕ) (from : ℕ) where
-  pub counting_starts : from ≤ length s → Counting h s from (record { at = from; rows = 0; last = Last.Other })
+  pub counting_starts : from ≤ length s → Counting h s from (record { at = from; rows = 0; last = None })
   unfolding chain_from
   counting_starts e = record { fuel = suc (length s); enough = omega arith; inside = e; few = omega arith; same = refl }
 
@@ -120,18 +120,18 @@ module _ (h : Header) (s : List ℕ) (from : ℕ) where
         let w = one_less h s c.fuel p.at c.enough c.inside in
         (w.0, c.same ∙ ap (λ (n : ℕ). summed p.rows (chain n h s p.at p.last)) w.1, rw w.1 at c.enough)
 
-    linked-by : (b : Boundary) → boundary_of h s p.at ≡ b → summed 0 (chain_from h s from) ≡ summed p.rows (link b p.last p.at (chain linked.0 h s))
-    linked-by b e = linked.1 ∙ ap (λ (d : Boundary). summed p.rows (link d p.last p.at (chain linked.0 h s))) e
+    linked-by : (b : Result Boundary Fault) → boundary_of h s p.at ≡ b → summed 0 (chain_from h s from) ≡ summed p.rows (link b p.last p.at (chain linked.0 h s))
+    linked-by b e = linked.1 ∙ ap (λ (d : Result Boundary Fault). summed p.rows (link d p.last p.at (chain linked.0 h s))) e
 
-    pub counting_ends : boundary_of h s p.at ≡ Boundary.EndMark → summed_as p.rows (ended p.last (p.at + 4)) ≡ summed 0 (chain_from h s from)
+    pub counting_ends : boundary_of h s p.at ≡ Ok Boundary.EndMark → summed_as p.rows (ended p.last (p.at + 4)) ≡ summed 0 (chain_from h s from)
     counting_ends e =
         let z : p.rows + 0 ≡ p.rows = omega arith in
-        sym (linked-by Boundary.EndMark e ∙ ap (λ (n : ℕ). summed_as n (ended p.last (p.at + 4))) z)
+        sym (linked-by (Ok Boundary.EndMark) e ∙ ap (λ (n : ℕ). summed_as n (ended p.last (p.at + 4))) z)
 
-    pub counting_stops : (x : Fault) → boundary_of h s p.at ≡ Boundary.Stopped x → Chained.Stopped x ≡ summed 0 (chain_from h s from)
-    counting_stops x e = sym (linked-by (Boundary.Stopped x) e)
+    pub counting_stops : (x : Fault) → boundary_of h s p.at ≡ Err x → Err x ≡ summed 0 (chain_from h s from)
+    counting_stops x e = sym (linked-by (Err x) e)
 
-    pub counting_more : (r : Row) (l : Last) (next : ℕ) → boundary_of h s p.at ≡ Boundary.Block r l next → (q : Pass) → q ≡ record { at = next; rows = p.rows + 1; last = l }
+    pub counting_more : (r : Row) (l : Option DnaCounts) (next : ℕ) → boundary_of h s p.at ≡ Ok (Boundary.Block r l next) → (q : Pass) → q ≡ record { at = next; rows = p.rows + 1; last = l }
         → Counting h s from q
     counting_more r l next e q t =
         let w = block_moves h s p.at r l next e in
@@ -142,38 +142,38 @@ module _ (h : Header) (s : List ℕ) (from : ℕ) where
           enough = omega (arith, linked.2, w.0);
           inside = w.1;
           few = omega (arith, w.0, c.few);
-          same = linked-by (Boundary.Block r l next) e ∙ ap (λ (n : ℕ). summed_as n (chain k h s next l).last) z;
+          same = linked-by (Ok (Boundary.Block r l next)) e ∙ ap (λ (n : ℕ). summed_as n (chain k h s next l).last) z;
         })
 
 -- The second pass: the rows of the chain, read again without its end marks and catalogues.
-pub rows-again : (n : ℕ) (h : Header) (s : List ℕ) (at : ℕ) (last : Last) → rows_from (length (chain n h s at last).rows) h s at ≡ (chain n h s at last).rows
+pub rows-again : (n : ℕ) (h : Header) (s : List ℕ) (at : ℕ) (last : Option DnaCounts) → rows_from (length (chain n h s at last).rows) h s at ≡ (chain n h s at last).rows
 unfolding chain rows_from
 rows-again zero h s at last = refl
 rows-again (suc n) h s at last = go (boundary_of h s at) refl (λ next l. rows-again n h s next l)
   where
-    go : (b : Boundary) → boundary_of h s at ≡ b → ((next : ℕ) (l : Last) → rows_from (length (chain n h s next l).rows) h s next ≡ (chain n h s next l).rows)
+    go : (b : Result Boundary Fault) → boundary_of h s at ≡ b → ((next : ℕ) (l : Option DnaCounts) → rows_from (length (chain n h s next l).rows) h s next ≡ (chain n h s next l).rows)
         → rows_from (length (link b last at (chain n h s)).rows) h s at ≡ (link b last at (chain n h s)).rows
-    go Boundary.EndMark t f = refl
-    go (Boundary.Stopped x) t f = refl
-    go (Boundary.Block r l next) t f =
+    go (Ok Boundary.EndMark) t f = refl
+    go (Err x) t f = refl
+    go (Ok (Boundary.Block r l next)) t f =
         ap (λ (o : Outcome Row). go_on o (rows_from (length (chain n h s next l).rows) h s)) (block_row h s at r l next t) ∙ ap (λ (q : List Row). r ∷ q) (f next l)
 
 -- an end mark stands there, and is in the file
-pub mark-stands : (h : Header) (s : List ℕ) (at : ℕ) → boundary_of h s at ≡ Boundary.EndMark → stands s at (ascii "ENDB") ≡ true
+pub mark-stands : (h : Header) (s : List ℕ) (at : ℕ) → boundary_of h s at ≡ Ok Boundary.EndMark → stands s at (ascii "ENDB") ≡ true
 unfolding boundary_of finished
 mark-stands h s at e = go (stands s at (ascii "ENDB")) refl
   where
-    by : (o : Outcome Row) → on_row h s o ≡ Boundary.EndMark → false ≡ true
+    by : (o : Outcome Row) → on_row h s o ≡ Ok Boundary.EndMark → false ≡ true
     by (read r n) g = no (is_dna (kind_of r.code)) refl
       where
-        some : (o : Outcome Dna) → catalogued r n o ≡ Boundary.EndMark → false ≡ true
+        some : (o : Outcome Dna) → catalogued r n o ≡ Ok Boundary.EndMark → false ≡ true
         some (read d end) w = cc
         some (fault x) w = cc
 
         no : (t : Bool) → is_dna (kind_of r.code) ≡ t → false ≡ true
         no true u = some (run (catalogue h.endianness) (payload_of s r) 0) (sym (held _ _ u) ∙ g)
         no false u =
-            let w : Boundary.Block r Last.Other n ≡ Boundary.EndMark = sym (failed _ _ u) ∙ g in
+            let w : (Ok (Boundary.Block r None n)) ≡ (Ok Boundary.EndMark) = sym (failed _ _ u) ∙ g in
             cc
     by (fault x) g = cc
 
@@ -181,7 +181,7 @@ mark-stands h s at e = go (stands s at (ascii "ENDB")) refl
     go true u = refl
     go false u = by (row_at h s at) (sym (failed _ _ u) ∙ e)
 
-pub mark-room : (h : Header) (s : List ℕ) (at : ℕ) → boundary_of h s at ≡ Boundary.EndMark → at + 4 ≤ length s
+pub mark-room : (h : Header) (s : List ℕ) (at : ℕ) → boundary_of h s at ≡ Ok Boundary.EndMark → at + 4 ≤ length s
 mark-room h s at e = omega (arith, stands-room s at (ascii "ENDB") (mark-stands h s at e))
 
 -- the table's numbers, one row more

@@ -1,4 +1,5 @@
 -- A block that is cut stops with a cut.
+use Rattle.std.specs.Prelude.{Ok, Err, Option}
 use Prim.Native.Nat.{ℕ, ◌+◌, ◌≤◌, ◌<◌}
 use mathlib.Core.Bool.{Bool, true, false}
 use mathlib.Core.List.{List}
@@ -23,7 +24,7 @@ use Rattle.block.specs.BlockHeaders.{block_header}
 use Rattle.block.specs.Kinds.{kind_of}
 use Rattle.block.proofs.Trees.{block_header_wants}
 use Rattle.blend.specs.declared.blend.Boundary.{Boundary}
-use Rattle.blend.specs.declared.blend.Last.{Last}
+use Rattle.dna.specs.declared.dna.DnaCounts.{DnaCounts}
 use Rattle.blend.specs.Blocks.{taken, block, rowed, row_at, boundary_of}
 use Rattle.blend.proofs.Chains.{block_row}
 use Rattle.blend.proofs.Links.{no-mark}
@@ -36,7 +37,7 @@ block_wants h =
     wanting_then (block_header h) (λ b. skip b.size (then (taken (kind_of b.code) b.count) (λ u. done b))) (block_header_wants h)
     (λ b. wanting_then (taken (kind_of b.code) b.count) (λ u. done b) (of-taken Wanting tt tt tt (kind_of b.code) b.count) (λ u. tt))
 
-module _ (h : Header) (s : List ℕ) (k : ℕ) (l : k ≤ length s) (at : ℕ) (r : Row) (last : Last) (next : ℕ) (e : boundary_of h s at ≡ Boundary.Block r last next) (i : at ≤ k) (o : k < next) where
+module _ (h : Header) (s : List ℕ) (k : ℕ) (l : k ≤ length s) (at : ℕ) (r : Row) (last : Option DnaCounts) (next : ℕ) (e : boundary_of h s at ≡ Ok (Boundary.Block r last next)) (i : at ≤ k) (o : k < next) where
   row_cut : CutWithin k (row_at h (take k s) at)
   unfolding row_at
   row_cut = go (run (block h) s at) refl (block_row h s at r last next e)
@@ -59,7 +60,7 @@ module _ (h : Header) (s : List ℕ) (k : ℕ) (l : k ≤ length s) (at : ℕ) (
           let m : k < at + 4 = leb-false _ _ t in
           sym (stands-cut (take k s) at (ascii "ENDB") (λ z. absurd (omega arith)) (omega (arith, length-take-le k s l)))
 
-  pub block-cut : (c : ℕ) × (boundary_of h (take k s) at ≡ Boundary.Stopped (Cut c)) × (c ≤ k)
+  pub block-cut : (c : ℕ) × (boundary_of h (take k s) at ≡ Err (Cut c)) × (c ≤ k)
   block-cut =
       let c = row_cut in
       (c.0, sym (boundary_stops h (take k s) at unmarked (Cut c.0) (sym c.1)), c.2)

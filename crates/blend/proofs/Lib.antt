@@ -7,5 +7,5 @@ pub mod Lossless
 pub mod Answers
 pub mod Examples
 pub mod Taken
-pub mod Refusing
 pub mod Cutting
+pub mod Refusing

@@ -1,4 +1,5 @@
 -- Laws of a block and its row: how the tree of a block goes on, where a row's payload lies, and what is at a boundary.
+use Rattle.std.specs.Prelude.{Result, Ok, Err, Some, None}
 use Prim.Native.Nat.{ℕ, ◌+◌, ◌≤◌}
 use mathlib.Core.Bool.{Bool, true, false}
 use mathlib.Core.List.{List}
@@ -7,7 +8,8 @@ use native.Mathlib.Omega.{arith}
 use lib.Dec.{eqb}
 use lib.ListN.{length}
 use Rattle.octets.specs.declared.Fault.{Fault}
-use Rattle.octets.specs.declared.Fault.TheVariants.{Refusal}
+use Rattle.octets.specs.declared.Refusal.{Refusal}
+use Rattle.octets.specs.declared.Refusal.TheVariants.{UnsupportedCountOnPrincipalBlock}
 use Rattle.octets.specs.Ascii.{ascii}
 use Rattle.octets.specs.Helpers.{Placed}
 use Rattle.octets.specs.Reader.{Reader, Outcome, run, then, stands}
@@ -18,15 +20,12 @@ use Rattle.octets.proofs.Onward.{skip-on, skip-stops}
 use Rattle.octets.proofs.Tests.{held, failed}
 use Rattle.octets.proofs.Times.{goes_on, stops}
 use Rattle.dna.specs.declared.dna.DnaCounts.{DnaCounts}
-use Rattle.dna.specs.declared.dna.DnaCounted.{DnaCounted}
 use Rattle.dna.specs.Catalogue.{Dna, catalogue, counts, counts_only, outcome_of}
 use Rattle.header.specs.declared.Header.{Header}
 use Rattle.block.specs.declared.BlockHeader.{BlockHeader}
 use Rattle.block.specs.declared.Row.{Row}
 use Rattle.block.specs.declared.Kind.{Kind}
-use Rattle.blend.specs.declared.blend.Last.{Last}
 use Rattle.blend.specs.declared.blend.Boundary.{Boundary}
-use Rattle.blend.specs.declared.blend.Taking.{Taking}
 use Rattle.header.specs.Layout.{block_header_length}
 use Rattle.block.specs.BlockHeaders.{block_header}
 use Rattle.block.specs.Kinds.{kind_of}
@@ -65,17 +64,17 @@ module _ (h : Header) (s : List ℕ) (at : ℕ) where
       payload-fits = omega (arith, payload-at, (skip-room b.size s from next k).1)
 
       module _ (q : Kind) (c : q ≡ kind_of b.code) where
-        as_code : (t : Taking) → taking t ≡ taken q b.count → run (block h) s at ≡ run (then (taking t) (λ u. done b)) s next
+        as_code : (t : Result (Unit {0}) Refusal) → taking t ≡ taken q b.count → run (block h) s at ≡ run (then (taking t) (λ u. done b)) s next
         unfolding by_code
         as_code t e = on-payload ∙ ap (λ (r : Reader (Unit {0})). run (then r (λ u. done b)) s next) (sym (e ∙ ap (λ (j : Kind). taken j b.count) c))
 
-        pub row-refused : (n : ℕ) → taking (Taking.No n) ≡ taken q b.count → fault (Refusal n) ≡ row_at h s at
+        pub row-refused : (n : Refusal) → taking (Err n) ≡ taken q b.count → fault (Fault.Refusal n) ≡ row_at h s at
         unfolding row_at run then
-        row-refused n e = sym (ap (rowed h at) (as_code (Taking.No n) e))
+        row-refused n e = sym (ap (rowed h at) (as_code (Err n) e))
 
-        pub row_read_lem : taking Taking.Yes ≡ taken q b.count → (r : Row) → r ≡ row_of h at b → read r next ≡ row_at h s at
+        pub row_read_lem : taking (Ok tt) ≡ taken q b.count → (r : Row) → r ≡ row_of h at b → read r next ≡ row_at h s at
         unfolding row_at run then
-        row_read_lem e r w = ap (λ (v : Row). read v next) w ∙ sym (ap (rowed h at) (as_code Taking.Yes e))
+        row_read_lem e r w = ap (λ (v : Row). read v next) w ∙ sym (ap (rowed h at) (as_code (Ok tt) e))
 
 -- Where a block that was read lies: its header, its payload, and the next boundary, all in the file.
 pub record Lies (h : Header) (s : List ℕ) (at : ℕ) (r : Row) (next : ℕ) : Type 0 where
@@ -95,7 +94,7 @@ code_reads Kind.Dna n b s at d next h = (cc, cc)
 code_reads Kind.Unknown n b s at d next h = (cc, cc)
 code_reads Kind.Principal n b s at d next h = go (eqb n 1) h
   where
-    go : (t : Bool) → run (then {A = Unit {0}} (elim t as (λ (c : Bool). Reader (Unit {0})) [ true ↦ done tt | false ↦ refuse 4 ]) (λ u. done b)) s at ≡ read d next → (d ≡ b) × (next ≡ at)
+    go : (t : Bool) → run (then {A = Unit {0}} (elim t as (λ (c : Bool). Reader (Unit {0})) [ true ↦ done tt | false ↦ refuse UnsupportedCountOnPrincipalBlock ]) (λ u. done b)) s at ≡ read d next → (d ≡ b) × (next ≡ at)
     go true g = (cc, cc)
     go false g = (cc, cc)
 
@@ -155,25 +154,25 @@ module _ (h : Header) (s : List ℕ) (r : Row) (next : ℕ) (q : Kind) (e : q �
   tested : is_dna (kind_of r.code) ≡ t
   tested = sym (d ∙ ap is_dna e)
 
-  pub other_finished : t ≡ false → Boundary.Block r Last.Other next ≡ finished h s r next
+  pub other_finished : t ≡ false → Ok (Boundary.Block r None next) ≡ finished h s r next
   unfolding finished
   other_finished f = sym (failed _ _ (tested ∙ f))
 
-  module _ (f : t ≡ true) (p : List ℕ) (same : p ≡ payload_of s r) (c : DnaCounted) (k : outcome_of c ≡ counts_only (run (catalogue h.endianness) p 0)) where
+  module _ (f : t ≡ true) (p : List ℕ) (same : p ≡ payload_of s r) (c : Result (DnaCounts × ℕ) Fault) (k : outcome_of c ≡ counts_only (run (catalogue h.endianness) p 0)) where
     as-catalogue : finished h s r next ≡ catalogued r next (run (catalogue h.endianness) p 0)
     unfolding finished
     as-catalogue = held _ _ (tested ∙ f) ∙ ap (λ (l : List ℕ). catalogued r next (run (catalogue h.endianness) l 0)) (sym same)
 
-    pub dna-finished : (n : DnaCounts) (end : ℕ) → c ≡ DnaCounted.Are n end → Boundary.Block r (Last.Dna n) next ≡ finished h s r next
+    pub dna-finished : (n : DnaCounts) (end : ℕ) → c ≡ Ok (n, end) → Ok (Boundary.Block r (Some n) next) ≡ finished h s r next
     dna-finished n end w = go (run (catalogue h.endianness) p 0) refl (sym (ap outcome_of w) ∙ k)
       where
-        go : (o : Outcome Dna) → run (catalogue h.endianness) p 0 ≡ o → read n end ≡ counts_only o → Boundary.Block r (Last.Dna n) next ≡ finished h s r next
+        go : (o : Outcome Dna) → run (catalogue h.endianness) p 0 ≡ o → read n end ≡ counts_only o → Ok (Boundary.Block r (Some n) next) ≡ finished h s r next
         go (read a m) u v =
             let x : n ≡ counts a = cc in
-            ap (λ (j : DnaCounts). Boundary.Block r (Last.Dna j) next) x ∙ sym (as-catalogue ∙ ap (catalogued r next) u)
+            ap (λ (j : DnaCounts). (Ok (Boundary.Block r (Some j) next))) x ∙ sym (as-catalogue ∙ ap (catalogued r next) u)
         go (fault y) u v = cc
 
-    module _ (x : Fault) (w : c ≡ DnaCounted.Stopped x) where
+    module _ (x : Fault) (w : c ≡ Err x) where
       catalogue-stops : run (catalogue h.endianness) p 0 ≡ fault x
       catalogue-stops = go (run (catalogue h.endianness) p 0) (sym (ap outcome_of w) ∙ k)
         where
@@ -181,15 +180,15 @@ module _ (h : Header) (s : List ℕ) (r : Row) (next : ℕ) (q : Kind) (e : q �
           go (read a m) v = cc
           go (fault y) v = cc
 
-      pub dna-stopped : (y : Fault) → y ≡ within r.payload x → Boundary.Stopped y ≡ finished h s r next
-      dna-stopped y u = ap (λ (z : Fault). Boundary.Stopped z) u ∙ sym (as-catalogue ∙ ap (catalogued r next) catalogue-stops)
+      pub dna-stopped : (y : Fault) → y ≡ within r.payload x → Err y ≡ finished h s r next
+      dna-stopped y u = ap (λ (z : Fault). (Err z)) u ∙ sym (as-catalogue ∙ ap (catalogued r next) catalogue-stops)
 
       pub dna-placed : (n : ℕ) → length p ≡ n → Placed n x
       dna-placed n l = rw (← l) (stops-within (catalogue h.endianness) p x catalogue-stops)
 
 -- what is at a boundary
 module _ (h : Header) (s : List ℕ) (at : ℕ) where
-  pub end_mark_lem : stands s at (ascii "ENDB") ≡ true → Boundary.EndMark ≡ boundary_of h s at
+  pub end_mark_lem : stands s at (ascii "ENDB") ≡ true → Ok Boundary.EndMark ≡ boundary_of h s at
   unfolding boundary_of
   end_mark_lem t = sym (held _ _ t)
 
@@ -198,7 +197,7 @@ module _ (h : Header) (s : List ℕ) (at : ℕ) where
     unfolding boundary_of
     on-block = failed _ _ t
 
-    pub boundary_stops : (x : Fault) → fault x ≡ row_at h s at → Boundary.Stopped x ≡ boundary_of h s at
+    pub boundary_stops : (x : Fault) → fault x ≡ row_at h s at → Err x ≡ boundary_of h s at
     boundary_stops x g = sym (on-block ∙ ap (on_row h s) (sym g))
 
     pub boundary_block : (r : Row) (next : ℕ) → read r next ≡ row_at h s at → finished h s r next ≡ boundary_of h s at

@@ -6,7 +6,8 @@ use mathlib.Core.Path.{◌≡◌, refl, sym, ◌∙◌, ap}
 use native.Mathlib.Omega.{arith}
 use lib.Dec.{eqb}
 use lib.ListN.{length, take, drop}
-use Rattle.octets.specs.declared.Fault.TheVariants.{Refusal}
+use Rattle.octets.specs.declared.Refusal.TheVariants.{InvalidMemoryAddress}
+use Rattle.octets.specs.declared.Fault.{Fault}
 use Rattle.octets.specs.Helpers.{go_on}
 use Rattle.octets.specs.Reader.{Outcome}
 use Rattle.octets.specs.Reader.Outcome.{read, fault}
@@ -40,7 +41,7 @@ module _ (h : Header) (s : List ℕ) (at : ℕ) (r : Row) (next : ℕ) (g : row_
       go : (b : BlockHeader) (from : ℕ) (t : Bool) → eqb (header_at h s at).address 0 ≡ t → read b from ≡ with_address (header_at h s at) (at + block_header_length h.format h.pointer_size)
           → b ≡ header_at h s at
       go b from true t k =
-          let q : read b from ≡ fault (Refusal 3) = k ∙ held _ _ t in
+          let q : read b from ≡ fault (Fault.Refusal InvalidMemoryAddress) = k ∙ held _ _ t in
           cc
       go b from false t k =
           let q : read b from ≡ read (header_at h s at) (at + block_header_length h.format h.pointer_size) = k ∙ failed _ _ t in

@@ -10,7 +10,8 @@ use lib.ListN.{length, drop}
 use Rattle.octets.specs.declared.Endianness.{Endianness}
 use Rattle.octets.specs.declared.Endianness.TheVariants.{Little, Big}
 use Rattle.octets.specs.declared.Fault.{Fault}
-use Rattle.octets.specs.declared.Fault.TheVariants.{Cut, Refusal}
+use Rattle.octets.specs.declared.Fault.TheVariants.{Cut}
+use Rattle.octets.specs.declared.Refusal.TheVariants.{InvalidMemoryAddress}
 use Rattle.octets.specs.declared.PointerSize.{PointerSize}
 use Rattle.octets.specs.Helpers.{number_at}
 use Rattle.octets.specs.Number.{number}
@@ -49,7 +50,7 @@ null_in [] s at = false
 null_in (i ∷ is) s at = is_null i.field (number_at i.order i.width s at) || null_in is s (at + i.width)
 
 abbrev unless_null : Bool → BlockHeader → ℕ → Outcome BlockHeader
-unless_null true b next = fault (Refusal 3)
+unless_null true b next = fault (Fault.Refusal InvalidMemoryAddress)
 unless_null false b next = read b next
 
 tested-there : (f : Field) (n : ℕ) (r : Reader BlockHeader) (s : List ℕ) (at : ℕ) (t : Bool) (b : BlockHeader) (next : ℕ) → run r s at ≡ unless_null t b next
@@ -60,7 +61,7 @@ tested-there index n r s at t b next h = h
 tested-there count n r s at t b next h = h
 tested-there address n r s at t b next h = go (eqb n 0)
   where
-    go : (c : Bool) → run (elim c as (λ (d : Bool). Reader BlockHeader) [ true ↦ refuse 3 | false ↦ r ]) s at ≡ unless_null (c || t) b next
+    go : (c : Bool) → run (elim c as (λ (d : Bool). Reader BlockHeader) [ true ↦ refuse InvalidMemoryAddress | false ↦ r ]) s at ≡ unless_null (c || t) b next
     go true = refl
     go false = h
 
@@ -105,7 +106,7 @@ module _ (h : Header) (s : List ℕ) (at : ℕ) where
       )
     where
       unless : (t : Bool) → unless_null t (header_at h s at) (at + block_header_length h.format h.pointer_size)
-          ≡ (elim t as (λ (c : Bool). Outcome BlockHeader) [ true ↦ fault (Refusal 3) | false ↦ read (header_at h s at) (at + block_header_length h.format h.pointer_size) ])
+          ≡ (elim t as (λ (c : Bool). Outcome BlockHeader) [ true ↦ fault (Fault.Refusal InvalidMemoryAddress) | false ↦ read (header_at h s at) (at + block_header_length h.format h.pointer_size) ])
       unless true = refl
       unless false = refl
 
@@ -142,14 +143,14 @@ module _ (f : FileFormat) (p : ℕ) (e : Endianness) (b : BlockHeader) (s : List
 
   -- the last two
   module _ (w : ℕ) (l : w ≡ last_width f) where
-    pub last_missing : (x : Fault) → ◌≡◌ {A = Outcome (Unit {0})} (fault x) (run (skip w (done tt)) s at) → fault x ≡ run (fields (last_two f p e) b) s at
+    last_missing : (x : Fault) → ◌≡◌ {A = Outcome (Unit {0})} (fault x) (run (skip w (done tt)) s at) → fault x ≡ run (fields (last_two f p e) b) s at
     last_missing x g = sym (go f l)
       where
         go : (f : FileFormat) → w ≡ last_width f → run (fields (last_two f p e) b) s at ≡ fault x
         go Legacy l = item-missing (item index 4 e) (drop 3 (layout_of Legacy p e)) b s at x (rw l at g)
         go New l = item-missing (item size 8 Little) (drop 3 (layout_of New p e)) b s at x (rw l at g)
 
-    pub last-passed : (next : ℕ) → ◌≡◌ {A = Outcome (Unit {0})} (read tt next) (run (skip w (done tt)) s at) → length s < at + (last_width f + last_width f)
+    last-passed : (next : ℕ) → ◌≡◌ {A = Outcome (Unit {0})} (read tt next) (run (skip w (done tt)) s at) → length s < at + (last_width f + last_width f)
         → fault (Cut next) ≡ run (fields (last_two f p e) b) s at
     unfolding fields
     last-passed next g short = sym (go f l short)
@@ -207,22 +208,31 @@ module _ (h : Header) (s : List ℕ) (at : ℕ) where
         address-missing x l = sym (on-first ∙ number-stops s two e w on-address x l)
 
         module _ (n three : ℕ) (l : read n three ≡ run (number e w done) s two) where
-          pub address-null : n ≡ 0 → fault (Refusal 3) ≡ run (block_header h) s at
+          pub address-null : n ≡ 0 → fault (Fault.Refusal InvalidMemoryAddress) ≡ run (block_header h) s at
           unfolding on-address run
           address-null z = sym (on-first ∙ number-on s two e w on-address n three l ∙ ap (λ (r : Reader BlockHeader). run r s three) (held _ _ (eq-eqb _ _ z)))
 
-          pub last-short : length s < at + block_header_length f h.pointer_size → length s < three + (last_width f + last_width f)
+          last-short : length s < at + block_header_length f h.pointer_size → length s < three + (last_width f + last_width f)
           last-short m =
               let a = skip-room 4 s at one g in
               let b = skip-room 4 s one two k in
               let c = number_moves e s w two n three (sym l) in
               omega (arith, m, a.0, b.0, c, q, length-parts f h.pointer_size)
 
-          pub rest-missing : (n ≡ 0 → ⊥) → (x : Fault) → ((p : ℕ) (e : Endianness) (b : BlockHeader) → fault x ≡ run (fields (last_two f p e) b) s three) → fault x ≡ run (block_header h) s at
-          unfolding on-address
-          rest-missing z x m =
-              m p e (tell address n after_first.0)
-              ∙ sym (on-first ∙ number-on s two e w on-address n three l ∙ ap (λ (r : Reader BlockHeader). run r s three) (failed _ _ (ne_eqb _ _ z)))
+          module _ (z : n ≡ 0 → ⊥) (v : ℕ) (o : v ≡ last_width f) where
+            told_so_far : BlockHeader
+            told_so_far = tell address n after_first.0
+
+            rest : run (fields (last_two f p e) told_so_far) s three ≡ run (block_header h) s at
+            unfolding on-address told_so_far
+            rest = sym (on-first ∙ number-on s two e w on-address n three l ∙ ap (λ (r : Reader BlockHeader). run r s three) (failed _ _ (ne_eqb _ _ z)))
+
+            pub rest-missing : (x : Fault) → ◌≡◌ {A = Outcome (Unit {0})} (fault x) (run (skip v (done tt)) s three) → fault x ≡ run (block_header h) s at
+            rest-missing x m = last_missing f p e told_so_far s three v o x m ∙ rest
+
+            pub rest_cut : (next : ℕ) → ◌≡◌ {A = Outcome (Unit {0})} (read tt next) (run (skip v (done tt)) s three) → length s < at + block_header_length f h.pointer_size
+                → fault (Cut next) ≡ run (block_header h) s at
+            rest_cut next m y = last-passed f p e told_so_far s three v o next m (last-short y) ∙ rest
 
 -- how far a block header goes
 pub tested_reads : {A : Type 0} (f : Field) (n : ℕ) (r : Reader A) (s : List ℕ) (at : ℕ) (a : A) (next : ℕ) → run (tested f n r) s at ≡ read a next → run r s at ≡ read a next
@@ -232,7 +242,7 @@ tested_reads {A} index n r s at a next h = h
 tested_reads {A} count n r s at a next h = h
 tested_reads {A} address n r s at a next h = go (eqb n 0) h
   where
-    go : (t : Bool) → run (elim t as (λ (c : Bool). Reader A) [ true ↦ refuse 3 | false ↦ r ]) s at ≡ read a next → run r s at ≡ read a next
+    go : (t : Bool) → run (elim t as (λ (c : Bool). Reader A) [ true ↦ refuse InvalidMemoryAddress | false ↦ r ]) s at ≡ read a next → run r s at ≡ read a next
     go true g = cc
     go false g = g
 

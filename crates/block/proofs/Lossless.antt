@@ -1,7 +1,10 @@
 -- The papers and the outcomes of the answers lose nothing: two answers that are told alike are the same answer.
-use Rattle.octets.proofs.Lossless.{at_one, whole-told}
-use Rattle.block.specs.declared.blend.BlockHeaderRead.{BlockHeaderRead}
-use Rattle.block.specs.BlockHeaders.{block_header_read, paper_block_header}
+use Rattle.octets.proofs.Lossless.{whole-told, whole-found}
+use Rattle.std.specs.Prelude.{Result}
+use Rattle.octets.specs.declared.Fault.{Fault}
+use Rattle.octets.specs.declared.cursor.Cursor.{Cursor}
+use Rattle.octets.specs.Cursor.{found}
+use Rattle.block.specs.BlockHeaders.{paper_block_header}
 use Rattle.block.specs.declared.BlockHeader.{BlockHeader}
 use Prim.Native.Nat.{ℕ}
 use mathlib.Core.List.{List, [], ◌∷◌}
@@ -37,17 +40,11 @@ kind_back Kind.Unknown = refl
 pub whole_kind : (a b : Kind) → paper_kind a ≡ paper_kind b → a ≡ b
 whole_kind a b e = sym (kind_back a) ∙ ap kind_told e ∙ kind_back b
 
--- what the read of a block header answers
-pub whole-block_header : (a b : BlockHeaderRead) → block_header_read a ≡ block_header_read b → a ≡ b
-whole-block_header (BlockHeaderRead.Is x y) (BlockHeaderRead.Is x' y') h = cc (at_one y y' (cc))
-whole-block_header (BlockHeaderRead.Is x y) (BlockHeaderRead.Stopped x') h = cc
-whole-block_header (BlockHeaderRead.Stopped x) (BlockHeaderRead.Is x' y') h = cc
-whole-block_header (BlockHeaderRead.Stopped x) (BlockHeaderRead.Stopped x') h = cc
-
+-- a block header by its numbers, and what the read of one answers
 one-block_header : (a b : BlockHeader) → (a.code ∷ a.size ∷ a.address ∷ a.index ∷ a.count ∷ []) ≡ (b.code ∷ b.size ∷ b.address ∷ b.index ∷ b.count ∷ []) → a ≡ b
 one-block_header a b e =
     ap (λ (l : List ℕ). record { code = get_or l 0 0; size = get_or l 1 0; address = get_or l 2 0; index = get_or l 3 0; count = get_or l 4 0 }) e
 
-pub paper_block_header_lem : (a b : BlockHeaderRead) → paper_block_header a ≡ paper_block_header b → a ≡ b
+pub paper_block_header_lem : (a b : Result (BlockHeader × Cursor) Fault) → paper_block_header a ≡ paper_block_header b → a ≡ b
 paper_block_header_lem a b e =
-    whole-block_header a b (whole-told (λ h. h.code ∷ h.size ∷ h.address ∷ h.index ∷ h.count ∷ []) one-block_header (block_header_read a) (block_header_read b) e)
+    whole-found a b (whole-told (λ h. h.code ∷ h.size ∷ h.address ∷ h.index ∷ h.count ∷ []) one-block_header (found a) (found b) e)

@@ -2,8 +2,9 @@
 use Prim.Native.Nat.{ℕ}
 use mathlib.Core.Bool.{Bool, true, false}
 use mathlib.Core.List.{List, [], ◌∷◌}
-use native.Mathlib.Omega.{arith}
 use lib.Dec.{eqb}
+use Rattle.octets.specs.declared.Refusal.{Refusal}
+use Rattle.octets.specs.declared.Refusal.TheVariants.{InvalidMemoryAddress}
 use Rattle.octets.specs.Number.{spelled}
 use Rattle.octets.specs.Reader.{Reader}
 use Rattle.octets.specs.Reader.Reader.{done, refuse, bytes}
@@ -13,11 +14,10 @@ use Rattle.octets.proofs.Refusing.{Gives}
 use Rattle.header.specs.declared.Header.{Header}
 use Rattle.header.specs.Layout.{Field, Item, layout}
 use Rattle.header.specs.Layout.Field.{size, address, index, count}
-use Rattle.header.proofs.Refusing.{Counts}
 use Rattle.block.specs.declared.BlockHeader.{BlockHeader}
 use Rattle.block.specs.BlockHeaders.{tested, fields, block_header}
 
-module _ (P : Reader BlockHeader → Type 0) (end : (b : BlockHeader) → P (done b)) (null : P (refuse 3))
+module _ (P : Reader BlockHeader → Type 0) (end : (b : BlockHeader) → P (done b)) (null : P (refuse InvalidMemoryAddress))
     (read : (n : ℕ) (k : List ℕ → Reader BlockHeader) → ((b : List ℕ) → P (k b)) → P (bytes n k)) where
   of-tested : (f : Field) (n : ℕ) (r : Reader BlockHeader) → P r → P (tested f n r)
   of-tested size n r w = w
@@ -25,7 +25,7 @@ module _ (P : Reader BlockHeader → Type 0) (end : (b : BlockHeader) → P (don
   of-tested count n r w = w
   of-tested address n r w = go (eqb n 0)
     where
-      go : (c : Bool) → P (elim c as (λ (d : Bool). Reader BlockHeader) [ true ↦ refuse 3 | false ↦ r ])
+      go : (c : Bool) → P (elim c as (λ (d : Bool). Reader BlockHeader) [ true ↦ refuse InvalidMemoryAddress | false ↦ r ])
       go true = null
       go false = w
 
@@ -46,6 +46,6 @@ block_header_wants h = of-block_header Wanting (λ b. tt) tt (λ n k f. f) h
 pub block_header_sober : (h : Header) → Sober (block_header h)
 block_header_sober h = of-block_header Sober (λ b. tt) tt (λ n k f. f) h
 
--- why it is not read is a cut, or a refusal whose number is one of 1 and 3 to 6
-pub block_header-gives : (h : Header) → Gives Counts (block_header h)
-block_header-gives h = of-block_header (Gives Counts) (λ b. tt) (omega arith, omega arith, λ e. omega arith) (λ n k f. f) h
+-- why it is not read is a cut, or that its address is 0: what holds of this refusal holds of every refusal that its tree gives
+pub block_header-gives : (P : Refusal → Type 0) → P InvalidMemoryAddress → (h : Header) → Gives P (block_header h)
+block_header-gives P w h = of-block_header (Gives P) (λ b. tt) w (λ n k f. f) h

@@ -1,18 +1,20 @@
 -- Block headers: what is read of one, by its layout, and what it holds where all of it is there.
-use Rattle.std.specs.Prelude.{ℕ, ◌+◌, true, false, List, [], ◌∷◌, eqb, length}
+use Rattle.std.specs.Prelude.{ℕ, ◌+◌, true, false, List, [], ◌∷◌, eqb, length, Result}
 use Rattle.octets.specs.declared.Endianness.TheVariants.{Big}
+use Rattle.octets.specs.declared.Fault.{Fault}
+use Rattle.octets.specs.declared.Refusal.TheVariants.{InvalidMemoryAddress}
+use Rattle.octets.specs.declared.cursor.Cursor.{Cursor}
+use Rattle.octets.specs.Cursor.{found}
 use Rattle.octets.specs.Helpers.{number_at}
 use Rattle.octets.specs.Number.{number}
 use Rattle.octets.specs.Paper.{Paper}
-use Rattle.octets.specs.Reader.{Reader, Outcome}
+use Rattle.octets.specs.Reader.{Reader}
 use Rattle.octets.specs.Reader.Reader.{done, refuse}
-use Rattle.octets.specs.Reader.Outcome.{read, fault}
-use Rattle.octets.specs.Refusals.{invalid_memory_address, told}
+use Rattle.octets.specs.Refusals.{told}
 use Rattle.header.specs.declared.Header.{Header}
 use Rattle.header.specs.Layout.{Field, Item, layout, block_header_length}
 use Rattle.header.specs.Layout.Field.{size, address, index, count}
 use Rattle.block.specs.declared.BlockHeader.{BlockHeader}
-use Rattle.block.specs.declared.blend.BlockHeaderRead.{BlockHeaderRead}
 
 -- a block header with one number told
 abbrev pub tell : Field → ℕ → BlockHeader → BlockHeader
@@ -24,7 +26,7 @@ tell count n b = record { code = b.code; size = b.size; address = b.address; ind
 -- address not 0 (3), for every code
 abbrev pub tested : {A : Type 0} → Field → ℕ → Reader A → Reader A
 tested size n r = r
-tested address n r = elim (eqb n 0) [ true ↦ refuse invalid_memory_address | false ↦ r ]
+tested address n r = elim (eqb n 0) [ true ↦ refuse InvalidMemoryAddress | false ↦ r ]
 tested index n r = r
 tested count n r = r
 
@@ -42,14 +44,9 @@ unfoldable pub block_header : Header → Reader BlockHeader
 unfolding fields
 block_header h = number Big 4 (λ c. fields (layout h) (code_told c))
 
--- what a read of one answers, in the terms of the reading trees
-abbrev pub block_header_read : BlockHeaderRead → Outcome BlockHeader
-block_header_read (BlockHeaderRead.Is b c) = read b c.at
-block_header_read (BlockHeaderRead.Stopped f) = fault f
-
--- its paper: code, size, address, index, count
-abbrev pub paper_block_header : BlockHeaderRead → Paper
-paper_block_header r = told (λ b. b.code ∷ b.size ∷ b.address ∷ b.index ∷ b.count ∷ []) (block_header_read r)
+-- the paper of what a read of one answers: code, size, address, index, count
+abbrev pub paper_block_header : Result (BlockHeader × Cursor) Fault → Paper
+paper_block_header r = told (λ b. b.code ∷ b.size ∷ b.address ∷ b.index ∷ b.count ∷ []) (found r)
 
 -- A block header all of which stands at a place: its code, and the numbers of its layout one after another. Its tree finds the same, unless the address is 0
 -- (proofs/Layouts.antt, `header_there`).

@@ -2,10 +2,10 @@
 use Rattle.std.specs.Prelude.{ℕ, true, false, List, eqb, drop}
 use Rattle.octets.specs.declared.Endianness.{Endianness}
 use Rattle.octets.specs.declared.Endianness.TheVariants.{Little}
-use Rattle.octets.specs.declared.Fault.TheVariants.{Refusal}
+use Rattle.octets.specs.declared.Fault.{Fault}
+use Rattle.octets.specs.declared.Refusal.TheVariants.{InvalidMemoryAddress}
 use Rattle.octets.specs.Reader.{Outcome}
 use Rattle.octets.specs.Reader.Outcome.{read, fault}
-use Rattle.octets.specs.Refusals.{invalid_memory_address}
 use Rattle.header.specs.declared.FileFormat.{FileFormat}
 use Rattle.header.specs.Layout.{Item, layout_of, widths}
 use Rattle.block.specs.declared.BlockHeader.{BlockHeader}
@@ -19,4 +19,4 @@ last_width f = widths (drop 3 (layout_of f 0 Little))
 
 -- a block header that stands there, unless its address is 0
 abbrev pub with_address : BlockHeader → ℕ → Outcome BlockHeader
-with_address b next = elim (eqb b.address 0) [ true ↦ fault (Refusal invalid_memory_address) | false ↦ read b next ]
+with_address b next = elim (eqb b.address 0) [ true ↦ fault (Fault.Refusal InvalidMemoryAddress) | false ↦ read b next ]

@@ -1,25 +1,21 @@
 // Block headers: parsers/blend.rs of the Rust. Its nom parsers are reads at a place here, moved by value.
-ghost use Rattle.std.specs.Prelude.{◌≡◌, ℕ, ◌+◌, ◌^◌, ◌≤◌, ◌<◌, length};
-ghost use Rattle.octets.specs.declared.Endianness.{Endianness};
+ghost use Rattle.std.specs.Prelude.{◌≡◌, ◌+◌, ◌≤◌, ◌<◌, length};
 ghost use Rattle.octets.specs.Reader.{run};
-ghost use Rattle.octets.specs.Reader.Outcome.{fault};
-ghost use Rattle.block.specs.declared.BlockHeader.{BlockHeader};
-ghost use Rattle.octets.specs.Cursor.{width_of};
+ghost use Rattle.octets.specs.Cursor.{width_of, found};
 ghost use Rattle.octets.specs.Helpers.{number_at};
 ghost use Rattle.octets.specs.PointerSize.{pointer_bytes};
-ghost use Rattle.block.specs.BlockHeaders.{header_at, block_header, block_header_read, fields};
-ghost use Rattle.block.specs.Helpers.{last_two, last_width, with_address};
+ghost use Rattle.block.specs.BlockHeaders.{header_at, block_header};
+ghost use Rattle.block.specs.Helpers.{last_width, with_address};
 ghost use Rattle.header.specs.Layout.{block_header_length};
 ghost use Rattle.block.specs.Calls as calls;
 
 use crate::BlockHeader;
 use header::{FileFormat, Header};
-use octets::cursor::{Cursor, Moved, Numbered, Width};
-use octets::{Endianness, Fault, PointerSize};
-use primitive::primitive::{ValueU32, ValueU64, parse_u32, parse_u64};
+use octets::cursor::{Cursor, Width};
+use octets::{Endianness, Fault, PointerSize, Refusal};
 
 /// A block's code as its number, the first byte most significant.
-pub fn block_header_code(c: Cursor, s: &[u8]) -> Numbered
+pub fn block_header_code(c: Cursor, s: &[u8]) -> Result<(u64, Cursor), Fault>
     ensures { calls.blend::block_header_code c s.now result }
 {
     c.number(s, Width::Four, Endianness::Big)
@@ -35,114 +31,93 @@ fn address_width(p: PointerSize) -> Width
     }
 }
 
-/// A block header, and the place after it.
+// The bytes of a block header, all that it has, in a file with this header.
 #[derive(Clone, Copy)]
-pub enum BlockHeaderRead {
-    Is(BlockHeader, Cursor),
-    Stopped(Fault),
+struct Whole<'a> {
+    part: &'a [u8],
+    file: Header,
+    ghost complete: { length part.now ≡ block_header_length file.format file.pointer_size },
 }
 
-// A number of four bytes, and of eight, that stands at a place.
-fn word(s: &[u8], at: usize, order: Endianness) -> u64
-    requires { at + 4 ≤ length s.now }
-    ensures { result ≡ number_at order 4 s.now at }
-{
-    match parse_u32(&s[at..at + 4], order) {
-        ValueU32::Is(n) => n as u64,
-        ValueU32::Refused(_) => 0,
+impl<'a> Whole<'a> {
+    // The number that stands at a place of it.
+    fn number(&self, at: usize, width: Width, order: Endianness) -> u64
+        requires { at + width_of width ≤ length self.now.part.now }
+        ensures { result ≡ number_at order (width_of width) self.now.part.now at }
+    {
+        let (n, _) = Cursor::new(at).number(self.part, width, order).unwrap();
+        n
     }
-}
 
-fn long(s: &[u8], at: usize, order: Endianness) -> u64
-    requires { at + 8 ≤ length s.now }
-    ensures { result ≡ number_at order 8 s.now at }
-{
-    match parse_u64(&s[at..at + 8], order) {
-        ValueU64::Is(n) => n,
-        ValueU64::Refused(_) => 0,
+    // Where the last two numbers stand.
+    fn last_two(&self) -> usize
+        ensures { result ≡ 4 + 4 + pointer_bytes self.now.file.pointer_size }
+    {
+        8 + self.file.pointer_size.bytes_num()
     }
-}
 
-// Where the last two numbers of a block header stand that starts at a place.
-fn last_two(at: usize, h: Header) -> usize
-    requires { at < 2 ^ 63 }
-    ensures { result ≡ at + 4 + 4 + pointer_bytes h.pointer_size }
-{
-    let size = h.pointer_size;
-    at + 8 + size.bytes_num()
-}
-
-// The numbers of a block header all of which stands at a place.
-fn size_there(s: &[u8], at: usize, h: Header) -> u64
-    requires { at + block_header_length h.format h.pointer_size ≤ length s.now }
-    ensures { result ≡ (header_at h s.now at).size }
-{
-    let order = h.endianness;
-    let format = h.format;
-    match format {
-        FileFormat::Legacy => word(s, at + 4, order),
-        FileFormat::New => long(s, last_two(at, h), Endianness::Little),
+    fn size(&self) -> u64
+        ensures { result ≡ (header_at self.now.file self.now.part.now 0).size }
+    {
+        match self.file.format {
+            FileFormat::Legacy => self.number(4, Width::Four, self.file.endianness),
+            FileFormat::New => self.number(self.last_two(), Width::Eight, Endianness::Little),
+        }
     }
-}
 
-fn address_there(s: &[u8], at: usize, h: Header) -> u64
-    requires { at + block_header_length h.format h.pointer_size ≤ length s.now }
-    ensures { result ≡ (header_at h s.now at).address }
-{
-    let order = h.endianness;
-    let size = h.pointer_size;
-    match size {
-        PointerSize::Bits32 => word(s, at + 8, order),
-        PointerSize::Bits64 => long(s, at + 8, order),
+    fn address(&self) -> u64
+        ensures { result ≡ (header_at self.now.file self.now.part.now 0).address }
+    {
+        self.number(
+            8,
+            address_width(self.file.pointer_size),
+            self.file.endianness,
+        )
     }
-}
 
-fn index_there(s: &[u8], at: usize, h: Header) -> u64
-    requires { at + block_header_length h.format h.pointer_size ≤ length s.now }
-    ensures { result ≡ (header_at h s.now at).index }
-{
-    let order = h.endianness;
-    let format = h.format;
-    match format {
-        FileFormat::Legacy => word(s, last_two(at, h), order),
-        FileFormat::New => word(s, at + 4, Endianness::Little),
+    fn index(&self) -> u64
+        ensures { result ≡ (header_at self.now.file self.now.part.now 0).index }
+    {
+        match self.file.format {
+            FileFormat::Legacy => self.number(self.last_two(), Width::Four, self.file.endianness),
+            FileFormat::New => self.number(4, Width::Four, Endianness::Little),
+        }
     }
-}
 
-fn count_there(s: &[u8], at: usize, h: Header) -> u64
-    requires { at + block_header_length h.format h.pointer_size ≤ length s.now }
-    ensures { result ≡ (header_at h s.now at).count }
-{
-    let order = h.endianness;
-    let format = h.format;
-    match format {
-        FileFormat::Legacy => word(s, last_two(at, h) + 4, order),
-        FileFormat::New => long(s, last_two(at, h) + 8, Endianness::Little),
+    fn count(&self) -> u64
+        ensures { result ≡ (header_at self.now.file self.now.part.now 0).count }
+    {
+        let last = self.last_two();
+        match self.file.format {
+            FileFormat::Legacy => self.number(last + 4, Width::Four, self.file.endianness),
+            FileFormat::New => self.number(last + 8, Width::Eight, Endianness::Little),
+        }
     }
-}
 
-// What a block header says that stands at a place.
-fn header_there(s: &[u8], at: usize, h: Header) -> BlockHeader
-    requires { at + block_header_length h.format h.pointer_size ≤ length s.now }
-    ensures { result ≡ header_at h s.now at }
-{
-    BlockHeader {
-        code: word(s, at, Endianness::Big),
-        size: size_there(s, at, h),
-        address: address_there(s, at, h),
-        index: index_there(s, at, h),
-        count: count_there(s, at, h),
+    // What it says. It is made a part of each pass that asks it, which takes half the steps (docs/COST.md).
+    #[inline(always)]
+    fn says(&self) -> BlockHeader
+        ensures { result ≡ header_at self.now.file self.now.part.now 0 }
+    {
+        BlockHeader {
+            code: self.number(0, Width::Four, Endianness::Big),
+            size: self.size(),
+            address: self.address(),
+            index: self.index(),
+            count: self.count(),
+        }
     }
 }
 
 // A block header that stands there, unless its address is 0.
-fn with_address(b: BlockHeader, next: Cursor) -> BlockHeaderRead
-    ensures { block_header_read result ≡ with_address b next.at }
+fn with_address(b: BlockHeader, next: Cursor) -> Result<(BlockHeader, Cursor), Fault>
+    ensures { found result ≡ with_address b next.at }
 {
     if b.address == 0 {
-        return BlockHeaderRead::Stopped(Fault::Refusal(Fault::INVALID_MEMORY_ADDRESS));
+        Err(Fault::Refusal(Refusal::InvalidMemoryAddress))
+    } else {
+        Ok((b, next))
     }
-    BlockHeaderRead::Is(b, next)
 }
 
 // The width of each of a block header's last two numbers.
@@ -155,74 +130,42 @@ fn last_width(format: FileFormat) -> usize
     }
 }
 
-// What stops the last two numbers of a block header, not both of which are there.
-fn last_missing(c: Cursor, s: &[u8], format: FileFormat) -> Fault
-    requires { length s.now < c.at + (last_width format + last_width format) }
-    ensures { (p : ℕ) (e : Endianness) (b : BlockHeader) → fault result ≡ run (fields (last_two format p e) b) s.now c.at }
-{
-    match c.skip(s, last_width(format)) {
-        Moved::Stopped(f) => f,
-        Moved::To(last) => Fault::Cut(last.at),
-    }
-}
-
 // What stops a block header not all of which is there: the first of its numbers that is not, unless its address is there and is 0.
-fn missing(c: Cursor, s: &[u8], h: Header) -> Fault
+fn missing(c: Cursor, s: &[u8], h: Header) -> Result<(BlockHeader, Cursor), Fault>
     requires { length s.now < c.at + block_header_length h.format h.pointer_size }
-    ensures { fault result ≡ run (block_header h) s.now c.at }
+    ensures { found result ≡ run (block_header h) s.now c.at }
 {
-    let size = h.pointer_size;
-    let order = h.endianness;
-    let format = h.format;
-    match c.skip(s, 4) {
-        Moved::Stopped(f) => f,
-        Moved::To(first) => match first.skip(s, 4) {
-            Moved::Stopped(f) => f,
-            Moved::To(address) => match address.number(s, address_width(size), order) {
-                Numbered::Stopped(f) => f,
-                Numbered::Is(n, second) => if n == 0 {
-                    Fault::Refusal(Fault::INVALID_MEMORY_ADDRESS)
-                } else {
-                    last_missing(second, s, format)
-                },
-            },
-        },
+    let first = c.skip(s, 4)?;
+    let address = first.skip(s, 4)?;
+    let (n, second) = address.number(s, address_width(h.pointer_size), h.endianness)?;
+    if n == 0 {
+        return Err(Fault::Refusal(Refusal::InvalidMemoryAddress));
     }
+    let last = second.skip(s, last_width(h.format))?;
+    Err(Fault::Cut(last.at))
 }
 
 /// A block header of either edition at a place, in a file with this header.
-pub fn block_header(c: Cursor, s: &[u8], h: Header) -> BlockHeaderRead
+pub fn block_header(c: Cursor, s: &[u8], h: Header) -> Result<(BlockHeader, Cursor), Fault>
     ensures { calls.blend::block_header c s.now h result }
 {
-    let format = h.format;
-    let size = h.pointer_size;
-    match c.skip(s, format.block_header_len(size)) {
-        Moved::To(next) => with_address(header_there(s, c.at, h), next),
-        Moved::Stopped(_) => BlockHeaderRead::Stopped(missing(c, s, h)),
+    let len = h.format.block_header_len(h.pointer_size);
+    match c.skip(s, len) {
+        Ok(next) => {
+            let part = c.part(s, len);
+            with_address(Whole { part, file: h }.says(), next)
+        }
+        Err(_) => missing(c, s, h),
     }
 }
 
-/// What a block header says whose bytes these are, whatever its address; nothing but zeros where they are more or fewer than it has. (It does not call `header_there`, so
-/// that a compiler makes each of the two a part of its pass.)
+/// What a block header says whose bytes these are, whatever its address; nothing but zeros where they are more or fewer than it has.
 pub fn header_in(part: &[u8], h: Header) -> BlockHeader
     ensures { calls.blend::header_in part.now h result }
 {
-    let format = h.format;
-    let size = h.pointer_size;
-    if part.len() != format.block_header_len(size) {
-        return BlockHeader {
-            code: 0,
-            size: 0,
-            address: 0,
-            index: 0,
-            count: 0,
-        };
-    }
-    BlockHeader {
-        code: word(part, 0, Endianness::Big),
-        size: size_there(part, 0, h),
-        address: address_there(part, 0, h),
-        index: index_there(part, 0, h),
-        count: count_there(part, 0, h),
+    if part.len() == h.format.block_header_len(h.pointer_size) {
+        Whole { part, file: h }.says()
+    } else {
+        BlockHeader::new(0, 0, 0, 0, 0)
     }
 }

@@ -3,10 +3,12 @@
 
 pub mod blend;
 
+ghost use Rattle.std.specs.Prelude.{◌≡◌};
+ghost use Rattle.block.specs.Kinds.{is_principal};
 ghost use Rattle.block.specs.Calls as calls;
 
 /// What a block header says.
-#[derive(Clone, Copy)]
+#[derive(Clone, Copy, Debug, PartialEq, Eq)]
 pub struct BlockHeader {
     pub code: u64,
     pub size: u64,
@@ -31,7 +33,7 @@ impl BlockHeader {
 }
 
 /// What a block is, by its code: the variants of the Rust's Block, and a code that is none of them.
-#[derive(Clone, Copy)]
+#[derive(Clone, Copy, Debug, PartialEq, Eq)]
 pub enum Kind {
     Rend,
     Test,
@@ -42,39 +44,32 @@ pub enum Kind {
     Unknown,
 }
 
+// Whether a code's number is that of any two bytes and then two zeros.
+fn is_principal(code: u64) -> bool
+    ensures { result ≡ is_principal code }
+{
+    code <= 0xffff_ffff && code % 0x1_0000 == 0
+}
+
 impl Kind {
     /// Which kind a code's number is, its first byte most significant.
     pub fn of_code(code: u64) -> Self
         ensures { calls.Kind::of_code code result }
     {
-        if code == 0x5245_4e44 {
-            return Kind::Rend;
-        }
-        if code == 0x5445_5354 {
-            return Kind::Test;
-        }
-        if code == 0x474c_4f42 {
-            return Kind::Global;
-        }
-        if code == 0x4441_5441 {
-            return Kind::Subsidiary;
-        }
-        if code == 0x444e_4131 {
-            return Kind::Dna;
-        }
-        if 0xffff_ffff < code {
-            return Kind::Unknown;
-        }
-        if code % 0x1_0000 == 0 {
-            Kind::Principal
-        } else {
-            Kind::Unknown
+        match code {
+            0x5245_4e44 => Kind::Rend,
+            0x5445_5354 => Kind::Test,
+            0x474c_4f42 => Kind::Global,
+            0x4441_5441 => Kind::Subsidiary,
+            0x444e_4131 => Kind::Dna,
+            _ if is_principal(code) => Kind::Principal,
+            _ => Kind::Unknown,
         }
     }
 }
 
 /// How a block is taken, by its kind.
-#[derive(Clone, Copy)]
+#[derive(Clone, Copy, Debug, PartialEq, Eq)]
 pub enum Takes {
     Always,
     // Where its count is 1.
@@ -83,7 +78,7 @@ pub enum Takes {
 }
 
 /// What follows from a block's kind.
-#[derive(Clone, Copy)]
+#[derive(Clone, Copy, Debug, PartialEq, Eq)]
 pub struct About {
     pub takes: Takes,
     // Whether it is found by its address.
@@ -113,9 +108,7 @@ impl Kind {
         ensures { calls.«Kind::about» self result }
     {
         match self {
-            Kind::Rend => About::new(Takes::Always, false, true, false),
-            Kind::Test => About::new(Takes::Always, false, true, false),
-            Kind::Global => About::new(Takes::Always, false, true, false),
+            Kind::Rend | Kind::Test | Kind::Global => About::new(Takes::Always, false, true, false),
             Kind::Subsidiary => About::new(Takes::Always, true, false, false),
             Kind::Principal => About::new(Takes::Alone, true, true, false),
             Kind::Dna => About::new(Takes::Always, false, true, true),
@@ -125,7 +118,7 @@ impl Kind {
 }
 
 /// A block as the row table has it: its header's numbers but for the size, where its header and its payload start, and the payload's length.
-#[derive(Clone, Copy)]
+#[derive(Clone, Copy, Debug, PartialEq, Eq)]
 pub struct Row {
     pub code: u64,
     pub address: u64,

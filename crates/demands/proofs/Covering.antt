@@ -1,4 +1,5 @@
 -- Header, block headers, payloads and end mark cover a file that is read.
+use Rattle.std.specs.Prelude.{Ok, Option}
 use Prim.Native.Nat.{ℕ, ◌+◌}
 use mathlib.Core.List.{List, [], ◌∷◌, ◌++◌, append_assoc}
 use mathlib.Core.Path.{◌≡◌, refl, sym, ◌∙◌, ap, subst}
@@ -12,7 +13,6 @@ use Rattle.octets.proofs.Marks.{same-eq}
 use Rattle.dna.specs.declared.dna.DnaCounts.{DnaCounts}
 use Rattle.header.specs.declared.Header.{Header}
 use Rattle.block.specs.declared.Row.{Row}
-use Rattle.blend.specs.declared.blend.Last.{Last}
 use Rattle.blend.specs.declared.blend.Boundary.{Boundary}
 use Rattle.header.specs.Layout.{layout, block_header_length}
 use Rattle.block.specs.Rows.{row_of, payload_of}
@@ -31,7 +31,7 @@ module _ (h : Header) (s : List ℕ) where
   abbrev long : ℕ
   long = block_header_length h.format h.pointer_size
 
-  block-whole : (at : ℕ) (r : Row) (l : Last) (next : ℕ) → boundary_of h s at ≡ Boundary.Block r l next → Block h s r
+  block-whole : (at : ℕ) (r : Row) (l : Option DnaCounts) (next : ℕ) → boundary_of h s at ≡ Ok (Boundary.Block r l next) → Block h s r
   block-whole at r l next e =
       let w = row-headed h s at r next (block_row h s at r l next e) in
       let k = skip-room w.block.size s w.from next w.payload in
@@ -48,18 +48,18 @@ module _ (h : Header) (s : List ℕ) where
         payload = part-long s (at + long) w.block.size (omega (arith, k.1, f));
       })
 
-  pub blocks-whole : (rows : List Row) (at : ℕ) (last : Last) (n : DnaCounts) (end : ℕ) → Linked h s at last rows n end → Blocks h s rows
+  pub blocks-whole : (rows : List Row) (at : ℕ) (last : Option DnaCounts) (n : DnaCounts) (end : ℕ) → Linked h s at last rows n end → Blocks h s rows
   blocks-whole [] at last n end w = tt
   blocks-whole (r ∷ rs) at last n end w = (block-whole at r w.0 w.1 w.2, blocks-whole rs w.1 w.0 n end w.3)
 
-  pub rows-abut : (rows : List Row) (at : ℕ) (last : Last) (n : DnaCounts) (end : ℕ) → Linked h s at last rows n end → Abut at rows end
+  pub rows-abut : (rows : List Row) (at : ℕ) (last : Option DnaCounts) (n : DnaCounts) (end : ℕ) → Linked h s at last rows n end → Abut at rows end
   rows-abut [] at last n end w = mark-ends h s last at n end w.1
   rows-abut (r ∷ rs) at last n end w =
       let i = block_lies h s at r w.0 w.1 w.2 in
       (i.starts, subst (λ (j : ℕ). Abut j rs end) i.payload (rows-abut rs w.1 w.0 n end w.3))
 
   -- from a boundary to the end of the end mark
-  pub rest-whole : (rows : List Row) (at : ℕ) (last : Last) (n : DnaCounts) (end : ℕ) → Linked h s at last rows n end
+  pub rest-whole : (rows : List Row) (at : ℕ) (last : Option DnaCounts) (n : DnaCounts) (end : ℕ) → Linked h s at last rows n end
       → (k : ℕ) × (end ≡ at + k) × (part s at k ≡ blocks_part h s rows ++ ascii "ENDB")
   unfolding blocks_part
   rest-whole [] at last n end w = (4, mark-ends h s last at n end w.1, same-eq _ _ (mark-stands h s at w.0))

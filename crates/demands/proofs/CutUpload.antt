@@ -1,4 +1,5 @@
 -- A cut upload is told: a file that is read is refused by 1 or 16 wherever it is cut.
+use Rattle.std.specs.Prelude.{Result, Ok, Option, None}
 use Prim.Native.Nat.{ℕ, zero, suc, ◌+◌, ◌/◌, ◌≤◌, ◌<◌}
 use mathlib.Core.Bool.{Bool, true, false}
 use mathlib.Core.List.{List, [], ◌∷◌}
@@ -29,7 +30,7 @@ use Rattle.dna.proofs.Cutting.{catalogue-cut}
 use Rattle.block.specs.declared.Row.{Row}
 use Rattle.block.specs.Rows.{per_row}
 use Rattle.blend.specs.declared.blend.Boundary.{Boundary}
-use Rattle.blend.specs.declared.blend.Last.{Last}
+use Rattle.octets.specs.declared.Fault.{Fault}
 use Rattle.blend.specs.Blocks.{boundary_of}
 use Rattle.blend.specs.Chain.{File, link, chain, chain_from, on_header, file_by, read_as, answer_for}
 use Rattle.blend.proofs.Chains.{block_lies, code-stops}
@@ -48,20 +49,20 @@ module _ (h : Header) (s : List ℕ) (k : ℕ) (l : k ≤ length s) where
   cut-long = length-take-le k s l
 
   -- a block that ends in time is the same
-  block_same : (at : ℕ) (r : Row) (last : Last) (next : ℕ) → boundary_of h s at ≡ Boundary.Block r last next → next ≤ k → boundary_of h (take k s) at ≡ Boundary.Block r last next
+  block_same : (at : ℕ) (r : Row) (last : Option DnaCounts) (next : ℕ) → boundary_of h s at ≡ Ok (Boundary.Block r last next) → next ≤ k → boundary_of h (take k s) at ≡ Ok (Boundary.Block r last next)
   block_same at r last next e i =
       let w = block_lies h s at r last next e in
       block-kept h s (take k s) at r last next e (λ j a b. get_or-take k s j 0 (omega (arith, w.header, w.payload))) (omega (arith, cut-long))
       (λ d. inner r.payload r.len k s (omega (arith, w.payload)))
 
-  chain-cut : (rows : List Row) (at : ℕ) (last : Last) (n : DnaCounts) (end : ℕ) → Linked h s at last rows n end → at ≤ k → k < end → (fuel : ℕ) (before : Last)
+  chain-cut : (rows : List Row) (at : ℕ) (last : Option DnaCounts) (n : DnaCounts) (end : ℕ) → Linked h s at last rows n end → at ≤ k → k < end → (fuel : ℕ) (before : Option DnaCounts)
       → CutWithin k (chain fuel h (take k s) at before).last
   unfolding chain
   chain-cut rows at last n end w i o zero before = (at, refl, i)
   chain-cut [] at last n end w i o (suc fuel) before =
       let e : end ≡ at + 4 = mark-ends h s last at n end w.1 in
       let c = code-stops h (take k s) at (omega (arith, cut-long)) in
-      (at, ap (λ (b : Boundary). (link b before at (chain fuel h (take k s))).last) c, i)
+      (at, ap (λ (b : Result Boundary Fault). (link b before at (chain fuel h (take k s))).last) c, i)
   chain-cut (r ∷ rs) at last n end w i o (suc fuel) before = go (leb w.1 k) refl (λ j. chain-cut rs w.1 w.0 n end w.3 j o fuel w.0)
     where
       go : (b : Bool) → leb w.1 k ≡ b → (w.1 ≤ k → CutWithin k (chain fuel h (take k s) w.1 w.0).last)
@@ -69,21 +70,21 @@ module _ (h : Header) (s : List ℕ) (k : ℕ) (l : k ≤ length s) where
       go true t f =
           let c = f (leb-true _ _ t) in
           let b = block_same at r w.0 w.1 w.2 (leb-true _ _ t) in
-          (c.0, ap (λ (b : Boundary). (link b before at (chain fuel h (take k s))).last) b ∙ c.1, c.2)
+          (c.0, ap (λ (b : Result Boundary Fault). (link b before at (chain fuel h (take k s))).last) b ∙ c.1, c.2)
       go false t f =
           let c = block-cut h s k l at r w.0 w.1 w.2 i (leb-false _ _ t) in
-          (c.0, ap (λ (b : Boundary). (link b before at (chain fuel h (take k s))).last) c.1, c.2)
+          (c.0, ap (λ (b : Result Boundary Fault). (link b before at (chain fuel h (take k s))).last) c.1, c.2)
 
 header-long : (f : FileFormat) → 7 ≤ header_length f
 header-long Legacy = omega arith
 header-long New = omega arith
 
 module _ (s : List ℕ) (f : File) (first : ℕ) (w : Filed header_bytes s f first) (n : DnaCounts) (end : ℕ) (e : f.chain.last ≡ read n end) (k : ℕ) (o : k < end) (room : ℕ) where
-  links : Linked f.header s first Last.Other f.chain.rows n end
+  links : Linked f.header s first None f.chain.rows n end
   links = file-linked header_bytes s f first w n end e
 
   inside : k ≤ length s
-  inside = omega (arith, (linked-ends f.header s f.chain.rows first Last.Other n end links).1)
+  inside = omega (arith, (linked-ends f.header s f.chain.rows first None n end links).1)
 
   long : 7 ≤ first
   long = omega (arith, header_tree.long s w.bytes first w.found, header-long w.bytes.format)
@@ -100,7 +101,7 @@ module _ (s : List ℕ) (f : File) (first : ℕ) (w : Filed header_bytes s f fir
   no-chain i =
       let h = f.header in
       let g : run header_bytes (take k s) 0 ≡ read w.bytes first = header_tree.own s (take k s) w.bytes first w.found (take-take first k s i) in
-      let c = chain-cut h s k inside f.chain.rows first Last.Other n end links i o (suc (length (take k s))) Last.Other in
+      let c = chain-cut h s k inside f.chain.rows first None n end links i o (suc (length (take k s))) None in
       let q : header_of w.bytes ≡ h = sym w.value in (
         c.0,
         ap answer g ∙ ap (λ (x : Header). answer_for x (length (chain_from x (take k s) first).rows) room (chain_from x (take k s) first).last) q

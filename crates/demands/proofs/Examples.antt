@@ -1,4 +1,5 @@
 -- Document 01's P examples, computed of the rules; and a scene to which the demands apply, with copies of it that were changed.
+use Rattle.std.specs.Prelude.{Result, Ok}
 use Prim.Native.Nat.{ℕ}
 use mathlib.Core.List.{List, [], ◌∷◌}
 use mathlib.Core.Path.{◌≡◌, refl, ◌∙◌, ap}
@@ -15,8 +16,7 @@ use Rattle.octets.specs.Reader.Outcome.{read}
 use Rattle.dna.specs.Catalogue.{catalogue, listed, strings, sized, struct, structured, field_count}
 use Rattle.field.specs.Declarators.{function_pointer, function_as, taken, groups, spanned, digits, decimal, numbers, product, pointer_or_value, declared}
 use Rattle.header.specs.declared.Header.{Header}
-use Rattle.header.specs.declared.blend.HeaderAnswer.{HeaderAnswer}
-use Rattle.blend.specs.declared.blend.BlendAnswer.{BlendAnswer}
+use Rattle.octets.specs.declared.Fault.{Fault}
 use Rattle.block.specs.BlockHeaders.{fields, block_header}
 use Rattle.block.specs.Kinds.{kind_of}
 use Rattle.blend.specs.Blocks.{block, row_at, finished, boundary_of}
@@ -37,8 +37,8 @@ use Rattle.octets.specs.Looks.{Untouched}
 use Rattle.demands.proofs.Cover.{every-block}
 use Rattle.demands.proofs.Unaltered.{no_other_object, agree-near, agree-alike}
 
-of-header : (s : List ℕ) (h : Header) (at : ℕ) → valued (run header_bytes s 0) ≡ read h at → (r : HeaderAnswer) → «blend::header» s r → r ≡ HeaderAnswer.Is h at
-of-header s h at e r w = whole-header r (HeaderAnswer.Is h at) (w ∙ ap header_as e)
+of-header : (s : List ℕ) (h : Header) (at : ℕ) → valued (run header_bytes s 0) ≡ read h at → (r : Result (Header × ℕ) Fault) → «blend::header» s r → r ≡ Ok (h, at)
+of-header s h at e r w = whole-header r (Ok (h, at)) (w ∙ ap header_as e)
 
 in_legacy : Header
 in_legacy = record { pointer_size = Bits64; endianness = Little; version = record { major = 0; minor = 20 }; format = Legacy }
@@ -70,15 +70,15 @@ pub at_the_edges : AtTheEdges
 at_the_edges = (at_document_one, where_malformed)
 
 -- both are read, with the same answer and the same table
-pub read-sound : Answers (file_by header_bytes) sound before (BlendAnswer.Is answer) after
+pub read-sound : Answers (file_by header_bytes) sound before (Ok answer) after
 unfolding run then times header_bytes legacy new versionDecimal chain_from chain boundary_of row_at block block_header fields kind_of finished catalogue listed strings sized structured struct field_count read_as row_table scene
 read-sound = (refl, refl)
 
-pub read-changed : Answers (file_by header_bytes) changed before (BlendAnswer.Is answer) after
+pub read-changed : Answers (file_by header_bytes) changed before (Ok answer) after
 unfolding run then times header_bytes legacy new versionDecimal chain_from chain boundary_of row_at block block_header fields kind_of finished catalogue listed strings sized structured struct field_count read_as row_table scene
 read-changed = (refl, refl)
 
-in_forms : (f : FileFormat) (p : PointerSize) (e : Endianness) → «blend::blend» (scene_in f p e) (replicate 14 9) (BlendAnswer.Is (answer_in f p e)) (table_in f p)
+in_forms : (f : FileFormat) (p : PointerSize) (e : Endianness) → «blend::blend» (scene_in f p e) (replicate 14 9) (Ok (answer_in f p e)) (table_in f p)
 unfolding run then times header_bytes legacy new versionDecimal chain_from chain boundary_of row_at block block_header fields kind_of finished catalogue listed strings sized structured struct field_count read_as row_table scene_in
 in_forms Legacy Bits32 Little = (refl, refl)
 in_forms Legacy Bits32 Big = (refl, refl)
@@ -98,7 +98,7 @@ unfolding scene agree rows_spelt
 alike = agree-alike (rows_in after answer.rows) 148 sound changed (omega arith) refl
 
 pub stays : Stays sound before after 3 Little changed before after
-stays = (no_other_object sound before after (BlendAnswer.Is answer) read-sound changed before after (BlendAnswer.Is answer) read-changed refl alike).1
+stays = (no_other_object sound before after (Ok answer) read-sound changed before after (Ok answer) read-changed refl alike).1
 
 -- the second object's payload shows the same bytes by its view, and the first one's does not
 untouched : Untouched sound changed 64 68
@@ -113,7 +113,7 @@ unfolding scene part_as
 touched = (refl, refl)
 
 pub covered : Covered header_bytes sound answer.header (rows_in after answer.rows) 148
-covered = every-block sound before after (BlendAnswer.Is answer) read-sound
+covered = every-block sound before after (Ok answer) read-sound
 
 -- A byte of the DNA1's payload is another matter: with a mark of its catalogue changed the file is refused.
 pub dna_matters : read_as (file_by header_bytes (scene (ascii "hull") (ascii "hull") (ascii "TYPO") [])) 3 ≡ refuses 17 (108 ∷ [])

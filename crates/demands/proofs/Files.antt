@@ -1,4 +1,5 @@
 -- A file that is read: its header's bytes, and the boundaries of its chain.
+use Rattle.std.specs.Prelude.{None}
 use Prim.Native.Nat.{ℕ, suc, ◌≤◌}
 use mathlib.Core.List.{List}
 use mathlib.Core.Path.{◌≡◌, refl, sym, ◌∙◌, ap}
@@ -8,7 +9,6 @@ use Rattle.octets.specs.Reader.{Reader, Outcome, run}
 use Rattle.octets.specs.Reader.Outcome.{read, fault}
 use Rattle.octets.proofs.Extent.{ends-within}
 use Rattle.dna.specs.declared.dna.DnaCounts.{DnaCounts}
-use Rattle.blend.specs.declared.blend.Last.{Last}
 use Rattle.blend.specs.Chain.{Chain, File, on_header, file_by, chain_from}
 use Rattle.header.specs.Header.{HeaderBytes, header_of, valued}
 use Rattle.blend.proofs.Links.{Linked, linked}
@@ -38,7 +38,7 @@ module _ (header : Reader HeaderBytes) (s : List ℕ) (f : File) (first : ℕ) w
     pub first-inside : first ≤ length s
     first-inside = omega (arith, ends-within header s 0 w.bytes first w.found)
 
-    pub file-linked : (n : DnaCounts) (end : ℕ) → f.chain.last ≡ read n end → Linked f.header s first Last.Other f.chain.rows n end
+    pub file-linked : (n : DnaCounts) (end : ℕ) → f.chain.last ≡ read n end → Linked f.header s first None f.chain.rows n end
     unfolding chain_from
     file-linked n end l =
-        rw w.chained (linked f.header s (suc (length s)) first Last.Other n end (sym (ap (λ (c : Chain). c.last) w.chained) ∙ l))
+        rw w.chained (linked f.header s (suc (length s)) first None n end (sym (ap (λ (c : Chain). c.last) w.chained) ∙ l))

@@ -1,4 +1,5 @@
 -- What stands at the boundaries of a file stands at those of any other that differs only in payloads of blocks other than DNA1.
+use Rattle.std.specs.Prelude.{Result, Ok, Option, None}
 use Prim.Native.Nat.{ℕ, ◌+◌, ◌≤◌, ◌<◌}
 use mathlib.Core.Bool.{Bool, true, false, not, ◌&&◌, ◌||◌}
 use mathlib.Core.List.{List, [], ◌∷◌}
@@ -18,8 +19,8 @@ use Rattle.header.specs.declared.Header.{Header}
 use Rattle.block.specs.declared.BlockHeader.{BlockHeader}
 use Rattle.block.specs.declared.Row.{Row}
 use Rattle.block.specs.declared.Kind.{Kind}
-use Rattle.blend.specs.declared.blend.Last.{Last}
 use Rattle.blend.specs.declared.blend.Boundary.{Boundary}
+use Rattle.octets.specs.declared.Fault.{Fault}
 use Rattle.header.specs.Layout.{block_header_length}
 use Rattle.block.specs.BlockHeaders.{block_header}
 use Rattle.block.specs.Kinds.{code_number, is_principal, kind_of}
@@ -97,7 +98,7 @@ module _ (r : Row) (rs : List Row) (i : ℕ) where
   free_dna h = ap (λ (c : Bool). (not c && (leb r.payload i && ltb i (r.payload + r.len))) || is_free rs i) h
 
 -- no place before a boundary is free by the rows after it
-pub none_before : (h : Header) (s : List ℕ) (rows : List Row) (at : ℕ) (last : Last) (n : DnaCounts) (end : ℕ) → Linked h s at last rows n end → (i : ℕ) → i < at → is_free rows i ≡ false
+pub none_before : (h : Header) (s : List ℕ) (rows : List Row) (at : ℕ) (last : Option DnaCounts) (n : DnaCounts) (end : ℕ) → Linked h s at last rows n end → (i : ℕ) → i < at → is_free rows i ≡ false
 none_before h s [] at last n end w i k = refl
 none_before h s (r ∷ rs) at last n end w i k =
     let l = block_lies h s at r w.0 w.1 w.2 in
@@ -123,8 +124,8 @@ module _ (h : Header) (s z : List ℕ) where
   unfolding finished
   finished-kept r next p = go (is_dna (kind_of r.code)) p
     where
-      then-read : Bool → List ℕ → Boundary
-      then-read c p = elim c as (λ (d : Bool). Boundary) [ true ↦ catalogued r next (run (catalogue h.endianness) p 0) | false ↦ Boundary.Block r Last.Other next ]
+      then-read : Bool → List ℕ → Result Boundary Fault
+      then-read c p = elim c as (λ (d : Bool). (Result Boundary Fault)) [ true ↦ catalogued r next (run (catalogue h.endianness) p 0) | false ↦ Ok (Boundary.Block r None next) ]
 
       go : (c : Bool) → (c ≡ true → payload_of z r ≡ payload_of s r) → then-read c (payload_of z r) ≡ then-read c (payload_of s r)
       go true q = ap (then-read true) (q refl)
@@ -133,8 +134,8 @@ module _ (h : Header) (s z : List ℕ) where
   stands-kept : (at : ℕ) → at + 4 ≤ length s → at + 4 ≤ length z → Untouched s z at (at + 4) → stands z at (ascii "ENDB") ≡ stands s at (ascii "ENDB")
   stands-kept at k m u = ap (λ (l : List ℕ). same l (ascii "ENDB")) (window s z at 4 k m u)
 
-  pub block-kept : (at : ℕ) (r : Row) (l : Last) (next : ℕ) → boundary_of h s at ≡ Boundary.Block r l next → Untouched s z at (at + block_header_length h.format h.pointer_size) → next ≤ length z
-      → (is_dna (kind_of r.code) ≡ true → payload_of z r ≡ payload_of s r) → boundary_of h z at ≡ Boundary.Block r l next
+  pub block-kept : (at : ℕ) (r : Row) (l : Option DnaCounts) (next : ℕ) → boundary_of h s at ≡ Ok (Boundary.Block r l next) → Untouched s z at (at + block_header_length h.format h.pointer_size) → next ≤ length z
+      → (is_dna (kind_of r.code) ≡ true → payload_of z r ≡ payload_of s r) → boundary_of h z at ≡ Ok (Boundary.Block r l next)
   block-kept at r l next e u k p =
       let i = block_lies h s at r l next e in
       let long = header_at-least h.format h.pointer_size in
@@ -145,14 +146,14 @@ module _ (h : Header) (s z : List ℕ) where
       let v = stands-kept at m n (λ j a b. u j a (omega (arith, long))) in
       sym (boundary_block h z at (v ∙ f) r next (sym (row_kept at r next g u k))) ∙ finished-kept r next p ∙ boundary_block h s at f r next (sym g) ∙ e
 
-  mark-kept : (at : ℕ) → boundary_of h s at ≡ Boundary.EndMark → Untouched s z at (at + 4) → at + 4 ≤ length z → boundary_of h z at ≡ Boundary.EndMark
+  mark-kept : (at : ℕ) → boundary_of h s at ≡ Ok Boundary.EndMark → Untouched s z at (at + 4) → at + 4 ≤ length z → boundary_of h z at ≡ Ok Boundary.EndMark
   mark-kept at e u k = sym (end_mark_lem h z at (stands-kept at (mark-room h s at e) k u ∙ mark-stands h s at e))
 
   -- bytes that differ from `at` to `end` at most where these rows make them free
   abbrev pub Near : List Row → ℕ → ℕ → Type 0
   Near rows at end = (i : ℕ) → at ≤ i → i < end → is_free rows i ≡ false → get_or z i 0 ≡ get_or s i 0
 
-  module _ (r : Row) (rs : List Row) (at : ℕ) (last : Last) (n : DnaCounts) (end : ℕ) (w : Linked h s at last (r ∷ rs) n end) (k : end ≤ length z) (u : Near (r ∷ rs) at end) where
+  module _ (r : Row) (rs : List Row) (at : ℕ) (last : Option DnaCounts) (n : DnaCounts) (end : ℕ) (w : Linked h s at last (r ∷ rs) n end) (k : end ≤ length z) (u : Near (r ∷ rs) at end) where
     lies : Lies h s at r w.1
     lies = block_lies h s at r w.0 w.1 w.2
 
@@ -175,7 +176,7 @@ module _ (h : Header) (s z : List ℕ) where
     pub rest-near : Near rs w.1 end
     rest-near i a b f = u i (omega (arith, lies.header, lies.payload)) b (free_after r rs i (omega (arith, lies.payload)) ∙ f)
 
-  pub kept : (rows : List Row) (at : ℕ) (last : Last) (n : DnaCounts) (end : ℕ) → Linked h s at last rows n end → end ≤ length z → Near rows at end → Linked h z at last rows n end
+  pub kept : (rows : List Row) (at : ℕ) (last : Option DnaCounts) (n : DnaCounts) (end : ℕ) → Linked h s at last rows n end → end ≤ length z → Near rows at end → Linked h z at last rows n end
   kept [] at last n end w k u =
       let e = mark-ends h s last at n end w.1 in
       (mark-kept at w.0 (λ i a b. u i a (omega (arith, e)) refl) (omega (arith, e)), w.1)

@@ -1,4 +1,5 @@
 -- Document 01's sentences, from the laws beside the rules that they are about.
+use Rattle.std.specs.Prelude.{Ok, Err}
 use Prim.Native.Nat.{ℕ, ◌/◌}
 use mathlib.Core.Bool.{Bool, true, false}
 use mathlib.Core.List.{List, [], ◌∷◌}
@@ -10,12 +11,10 @@ use lib.ListN.{length, take}
 use Rattle.octets.specs.declared.Endianness.{Endianness}
 use Rattle.octets.specs.declared.Endianness.TheVariants.{Big}
 use Rattle.octets.specs.declared.Fault.{Fault}
-use Rattle.primitive.specs.declared.primitive.Name.{Name}
-use Rattle.octets.specs.Ascii.{ascii}
 use Rattle.octets.specs.Paper.{Paper}
 use Rattle.octets.specs.Paper.Paper.{accepts, real, refuses}
 use Rattle.octets.specs.Number.{spelled}
-use Rattle.primitive.specs.Primitive.{value_of, float, named}
+use Rattle.primitive.specs.Primitive.{value_of, float}
 use Rattle.octets.specs.Reader.{Outcome}
 use Rattle.octets.specs.Reader.Outcome.{read, fault}
 use Rattle.octets.specs.Refusals.{block_table_too_short, paper_fault}
@@ -26,7 +25,7 @@ use Rattle.primitive.proofs.Values.{float-bits}
 use Rattle.dna.specs.declared.dna.DnaCounts.{DnaCounts}
 use Rattle.block.specs.declared.Kind.{Kind}
 use Rattle.block.specs.declared.Row.{Row}
-use Rattle.blend.specs.declared.blend.BlendAnswer.{BlendAnswer}
+use Rattle.blend.specs.declared.blend.BlendError.{BlendError}
 use Rattle.block.specs.Kinds.{kind_of}
 use Rattle.blend.specs.Chain.{File, file_by, answer_for, read_as, rows_of, paper_blend}
 use Rattle.block.specs.Rows.{per_row}
@@ -39,7 +38,7 @@ use Rattle.runtime.proofs.Codes.{four_bytes_lem}
 use Rattle.runtime.proofs.Lossless.{whole-pointer, whole_code}
 use Rattle.held.proofs.Same.{same, same_rows}
 use Rattle.demands.specs.Answers.{rows_in}
-use Rattle.demands.specs.Sentences.{WalksAsRead, HeldWalksAsRead, OneSearch, FloatBits, code_of, CodeBytes, Spells, Names}
+use Rattle.demands.specs.Sentences.{WalksAsRead, HeldWalksAsRead, OneSearch, FloatBits, code_of, CodeBytes, Names}
 use Rattle.demands.proofs.Accepted.{accepted}
 use Rattle.demands.proofs.Walked.{to_held}
 
@@ -60,7 +59,7 @@ module _ (room : ℕ) where
           fits : (b : Bool) → ltb room (length f.chain.rows) ≡ b → ended end ≡ refused y
           fits true k = absurd (no_short (length f.chain.rows) y (sym (g ∙ held _ _ k)))
           fits false k =
-              let q : paper_fault y ≡ paper_blend (BlendAnswer.Is (record { header = f.header; rows = length f.chain.rows; end = end; dna = m })) = g ∙ failed _ _ k in
+              let q : paper_fault y ≡ paper_blend (Ok (record { header = f.header; rows = length f.chain.rows; end = end; dna = m })) = g ∙ failed _ _ k in
               cc
 
   stops-short : (o : Outcome File) (n : ℕ) → block_table_too_short n ≡ read_as o room → (end : ℕ) × (length (rows_of o) ≡ n) × (stop_by o ≡ ended end)
@@ -77,31 +76,31 @@ module _ (room : ℕ) where
               let q : block_table_too_short n ≡ block_table_too_short (length f.chain.rows) = g ∙ held _ _ k in
               (end, cc, refl)
           fits false k =
-              let q : block_table_too_short n ≡ paper_blend (BlendAnswer.Is (record { header = f.header; rows = length f.chain.rows; end = end; dna = m })) = g ∙ failed _ _ k in
+              let q : block_table_too_short n ≡ paper_blend (Ok (record { header = f.header; rows = length f.chain.rows; end = end; dna = m })) = g ∙ failed _ _ k in
               let z : ◌≡◌ {A = ℕ} 0 1 = cc in
               absurd (omega arith)
 
 pub walks_as_read : WalksAsRead
-walks_as_read s t t' (BlendAnswer.Is b) w =
+walks_as_read s t t' (Ok b) w =
     let a = accepted (file_by header_bytes s) t t' b w.0 w.1 in
     let x = subst (λ (o : Outcome File). Walk (Stepped header_bytes s) start (rows_of o) (stop_by o)) a.found (walks header_bytes s) in
     let y = subst (λ (l : Outcome DnaCounts). Walk (Stepped header_bytes s) start a.file.chain.rows (stop_of l)) a.last x in
     subst (λ (rs : List Row). Walk (Stepped header_bytes s) start rs (ended b.end)) (sym a.rows) y
-walks_as_read s t t' (BlendAnswer.Refused x) w =
+walks_as_read s t t' (Err (BlendError.Fault x)) w =
     let rows = rows_of (file_by header_bytes s) in
     (rows, subst (λ (a : Stop). Walk (Stepped header_bytes s) start rows a) (stops-refused (length t / per_row) (file_by header_bytes s) x w.0) (walks header_bytes s))
-walks_as_read s t t' (BlendAnswer.TableTooShort n) w =
+walks_as_read s t t' (Err (BlendError.TableTooShort n)) w =
     let rows = rows_of (file_by header_bytes s) in
     let k = stops-short (length t / per_row) (file_by header_bytes s) n w.0 in
     (rows, k.0, k.1, subst (λ (a : Stop). Walk (Stepped header_bytes s) start rows a) k.2 (walks header_bytes s))
 
 pub held-walks_as_read : HeldWalksAsRead
-held-walks_as_read file v o t t' (BlendAnswer.Is b) w = to_held file v o (rows_in t' b.rows) (ended b.end) (walks_as_read file.now t t' (BlendAnswer.Is b) w)
-held-walks_as_read file v o t t' (BlendAnswer.Refused x) w =
-    let k = walks_as_read file.now t t' (BlendAnswer.Refused x) w in
+held-walks_as_read file v o t t' (Ok b) w = to_held file v o (rows_in t' b.rows) (ended b.end) (walks_as_read file.now t t' (Ok b) w)
+held-walks_as_read file v o t t' (Err (BlendError.Fault x)) w =
+    let k = walks_as_read file.now t t' (Err (BlendError.Fault x)) w in
     (k.0, to_held file v o k.0 (refused x) k.1)
-held-walks_as_read file v o t t' (BlendAnswer.TableTooShort n) w =
-    let k = walks_as_read file.now t t' (BlendAnswer.TableTooShort n) w in
+held-walks_as_read file v o t t' (Err (BlendError.TableTooShort n)) w =
+    let k = walks_as_read file.now t t' (Err (BlendError.TableTooShort n)) w in
     (k.0, k.1, k.2, to_held file v o k.0 (ended k.1) k.3)
 
 pub one-search : OneSearch
@@ -156,21 +155,18 @@ code-bytes a b c d ha hb hc hd r h =
     let e = ap {B = Paper} (λ (l : List ℕ). elim (has_code k) as (λ (x : Bool). Paper) [ true ↦ accepts 0 l | false ↦ accepts 1 [] ]) (four_bytes_lem a b c d ha hb hc hd) in
     whole_code r (code_of k a b c d) (h ∙ e ∙ code_told_lem k a b c d)
 
-spells : (name : List ℕ) → take (named name).len (named name).bytes ≡ name → Spells (λ r. r ≡ named name) name
-spells name e r h = ap (λ (x : Name). take x.len x.bytes) h ∙ e
-
 pub names : Names
 names =
     record {
-      of_char = spells (ascii "char") refl;
-      of_i8 = spells (ascii "char") refl;
-      of_u8 = spells (ascii "uchar") refl;
-      of_u16 = spells (ascii "ushort") refl;
-      of_i16 = spells (ascii "short") refl;
-      of_i32 = spells (ascii "int") refl;
-      of_u32 = spells (ascii "ulong") refl;
-      of_f32 = spells (ascii "float") refl;
-      of_f64 = spells (ascii "double") refl;
-      of_u64 = spells (ascii "uint64_t") refl;
-      of_i64 = spells (ascii "int64_t") refl;
+      of_char = λ r h. h;
+      of_i8 = λ r h. h;
+      of_u8 = λ r h. h;
+      of_u16 = λ r h. h;
+      of_i16 = λ r h. h;
+      of_i32 = λ r h. h;
+      of_u32 = λ r h. h;
+      of_f32 = λ r h. h;
+      of_f64 = λ r h. h;
+      of_u64 = λ r h. h;
+      of_i64 = λ r h. h;
     }

@@ -1,4 +1,5 @@
 -- One object's bytes cannot alter another's: the demand's proof, for any tree that reads a header as it should, and for the one that the code follows.
+use Rattle.std.specs.Prelude.{Result, Ok, Err, Option, None}
 use Prim.Native.Nat.{ℕ, zero, suc, ◌+◌, ◌/◌, ◌≤◌, ◌<◌}
 use mathlib.Core.Bool.{Bool, true, false, ◌&&◌, ◌||◌}
 use mathlib.Core.List.{List, [], ◌∷◌}
@@ -20,9 +21,8 @@ use Rattle.dna.specs.Catalogue.{Dna, rooms, catalogue, read_as as catalogueAs, r
 use Rattle.dna.proofs.Lossless.{whole_tables}
 use Rattle.header.specs.declared.Header.{Header}
 use Rattle.block.specs.declared.Row.{Row}
-use Rattle.blend.specs.declared.blend.Last.{Last}
 use Rattle.blend.specs.declared.blend.RawBlend.{RawBlend}
-use Rattle.blend.specs.declared.blend.BlendAnswer.{BlendAnswer}
+use Rattle.blend.specs.declared.blend.BlendError.{BlendError}
 use Rattle.block.specs.Kinds.{code_number, kind_of}
 use Rattle.blend.specs.Blocks.{is_dna}
 use Rattle.block.specs.Rows.{payload_of, Column, per_row, row_table, cell, none, row_spelt}
@@ -46,14 +46,14 @@ use Rattle.octets.proofs.Own.{window}
 
 -- a row by its number: its payload lies before the end, and a DNA1's is the same in both files
 module _ (h : Header) (s : List ℕ) where
-  pub payload-before : (rows : List Row) (at : ℕ) (last : Last) (n : DnaCounts) (end : ℕ) → Linked h s at last rows n end → (i : ℕ) → i < length rows
+  pub payload-before : (rows : List Row) (at : ℕ) (last : Option DnaCounts) (n : DnaCounts) (end : ℕ) → Linked h s at last rows n end → (i : ℕ) → i < length rows
       → (get_or rows i none).payload + (get_or rows i none).len ≤ end
   payload-before [] at last n end w i k = absurd (omega arith)
   payload-before (r ∷ rs) at last n end w zero k =
       omega (arith, (block_lies h s at r w.0 w.1 w.2).payload, (linked-ends h s rs w.1 w.0 n end w.3).0)
   payload-before (r ∷ rs) at last n end w (suc i) k = payload-before rs w.1 w.0 n end w.3 i (omega arith)
 
-  pub dna-kept : (z : List ℕ) (rows : List Row) (at : ℕ) (last : Last) (n : DnaCounts) (end : ℕ) → Linked h s at last rows n end → end ≤ length z → Near h s z rows at end
+  pub dna-kept : (z : List ℕ) (rows : List Row) (at : ℕ) (last : Option DnaCounts) (n : DnaCounts) (end : ℕ) → Linked h s at last rows n end → end ≤ length z → Near h s z rows at end
       → (i : ℕ) → i < length rows → is_dna (kind_of (get_or rows i none).code) ≡ true → payload_of z (get_or rows i none) ≡ payload_of s (get_or rows i none)
   dna-kept z [] at last n end w k u i m d = absurd (omega arith)
   dna-kept z (r ∷ rs) at last n end w k u zero m d = dna-near h s z r rs at last n end w k u d
@@ -100,7 +100,7 @@ module _ (header : Reader HeaderBytes) (tree : HeaderTree header) (s z : List �
     found : Filed header s f first
     found = filed header s f first e
 
-    pub links : Linked f.header s first Last.Other f.chain.rows n end
+    pub links : Linked f.header s first None f.chain.rows n end
     links = file-linked header s f first found n end l
 
     pub near : Near f.header s z f.chain.rows first end
@@ -108,20 +108,20 @@ module _ (header : Reader HeaderBytes) (tree : HeaderTree header) (s z : List �
 
     first-near : Untouched s z 0 first
     first-near i a b =
-        w.bytes i (omega (arith, (linked-ends f.header s f.chain.rows first Last.Other n end links).0)) (none_before f.header s f.chain.rows first Last.Other n end links i b)
+        w.bytes i (omega (arith, (linked-ends f.header s f.chain.rows first None n end links).0)) (none_before f.header s f.chain.rows first None n end links i b)
 
     pub header-kept : valued (run header z 0) ≡ read f.header first
     header-kept =
-        let k : first ≤ length z = omega (arith, (linked-ends f.header s f.chain.rows first Last.Other n end links).0, w.long) in
+        let k : first ≤ length z = omega (arith, (linked-ends f.header s f.chain.rows first None n end links).0, w.long) in
         let p : take first z ≡ take first s = window s z 0 first (omega (arith, first-inside header s f first found)) (omega arith) (λ i a b. first-near i a (omega arith)) in
         ap valued (tree.own s z found.bytes first found.found p) ∙ ap (λ (h : Header). read h first) (sym found.value)
 
     chain-kept : chain_from f.header z first ≡ f.chain
     unfolding chain_from
     chain-kept =
-        let k : first ≤ length z = omega (arith, (linked-ends f.header s f.chain.rows first Last.Other n end links).0, w.long) in
-        chained f.header z f.chain.rows (suc (length z)) first Last.Other n end
-        (kept f.header s z f.chain.rows first Last.Other n end links w.long near) (omega arith) k
+        let k : first ≤ length z = omega (arith, (linked-ends f.header s f.chain.rows first None n end links).0, w.long) in
+        chained f.header z f.chain.rows (suc (length z)) first None n end
+        (kept f.header s z f.chain.rows first None n end links w.long near) (omega arith) k
         ∙ ap (λ (o : Outcome DnaCounts). record { rows = f.chain.rows; last = o }) (sym l)
 
     pub file-kept : file_by header z ≡ read f first
@@ -149,8 +149,8 @@ module _ (o : Outcome File) (t t' : List ℕ) (b : RawBlend) (a : Accepted o t t
       let z : 0 + row ≡ row = omega arith in
       ap (λ (rs : List Row). get_or rs row none) (sym a.rows) ∙ row_at t' b.rows 0 row k ∙ ap (row_spelt t') z
 
-module _ (header : Reader HeaderBytes) (tree : HeaderTree header) (s t t' : List ℕ) (b : RawBlend) (w : Answers (file_by header) s t (BlendAnswer.Is b) t')
-    (z u u' : List ℕ) (c : BlendAnswer) (x : Answers (file_by header) z u c u') (long : length u ≡ length t) (alike : Alike (rows_in t' b.rows) b.end s z) where
+module _ (header : Reader HeaderBytes) (tree : HeaderTree header) (s t t' : List ℕ) (b : RawBlend) (w : Answers (file_by header) s t (Ok b) t')
+    (z u u' : List ℕ) (c : Result RawBlend BlendError) (x : Answers (file_by header) z u c u') (long : length u ≡ length t) (alike : Alike (rows_in t' b.rows) b.end s z) where
   one : Accepted (file_by header s) t t' b
   one = accepted (file_by header s) t t' b w.0 w.1
 
@@ -163,9 +163,9 @@ module _ (header : Reader HeaderBytes) (tree : HeaderTree header) (s t t' : List
   same : file_by header z ≡ file_by header s
   same = file-kept header tree s z one.file one.first b.dna b.end one.found one.last like ∙ sym one.found
 
-  answer : c ≡ BlendAnswer.Is b
+  answer : c ≡ Ok b
   answer =
-      whole-blend c (BlendAnswer.Is b)
+      whole-blend c (Ok b)
       (x.0 ∙ ap (λ (o : Outcome File). read_as o (length u / per_row)) same ∙ ap (λ (n : ℕ). read_as (file_by header s) (n / per_row)) long ∙ sym w.0)
 
   two : Accepted (file_by header s) u u' b
@@ -182,16 +182,16 @@ module _ (header : Reader HeaderBytes) (tree : HeaderTree header) (s t t' : List
     spelt =
         sym (row_spelt_lem (file_by header s) u u' b two row k) ∙ ap (λ (f : File). get_or f.chain.rows row none) files ∙ row_spelt_lem (file_by header s) t t' b one row k
 
-    linked : Linked one.file.header s one.first Last.Other rows b.dna b.end
+    linked : Linked one.file.header s one.first None rows b.dna b.end
     linked = links header tree s z one.file one.first b.dna b.end one.found one.last like
 
     before : (row_spelt t' row).payload + (row_spelt t' row).len ≤ b.end
     before =
         subst (λ (r : Row). r.payload + r.len ≤ b.end) (row_spelt_lem (file_by header s) t t' b one row k)
-        (payload-before one.file.header s rows one.first Last.Other b.dna b.end linked row (omega (arith, counted (file_by header s) t t' b one row k)))
+        (payload-before one.file.header s rows one.first None b.dna b.end linked row (omega (arith, counted (file_by header s) t t' b one row k)))
 
     in-first : (row_spelt t' row).payload + (row_spelt t' row).len ≤ length s
-    in-first = omega (arith, before, (linked-ends one.file.header s rows one.first Last.Other b.dna b.end linked).1)
+    in-first = omega (arith, before, (linked-ends one.file.header s rows one.first None b.dna b.end linked).1)
 
     in-second : (row_spelt u' row).payload + (row_spelt u' row).len ≤ length z
     in-second = subst (λ (r : Row). r.payload + r.len ≤ length z) (sym spelt) (omega (arith, before, alike.long))
@@ -215,7 +215,7 @@ module _ (header : Reader HeaderBytes) (tree : HeaderTree header) (s t t' : List
         let q : is_dna (kind_of (get_or rows row none).code) ≡ true = ap (λ (r : Row). is_dna (kind_of r.code)) e ∙ ap (λ (n : ℕ). is_dna (kind_of n)) d in
         shown
         (subst (λ (r : Row). payload_of z r ≡ payload_of s r) e
-        (dna-kept one.file.header s z rows one.first Last.Other b.dna b.end linked like.long
+        (dna-kept one.file.header s z rows one.first None b.dna b.end linked like.long
         (near header tree s z one.file one.first b.dna b.end one.found one.last like) row (omega (arith, counted (file_by header s) t t' b one row k)) q))
 
   tables_long : length u' ≡ length t'
@@ -234,10 +234,10 @@ module _ (header : Reader HeaderBytes) (tree : HeaderTree header) (s t t' : List
       }
 
 pub unaltered : NoOtherObjectBy
-unaltered header tree s t t' (BlendAnswer.Is b) w z u u' c x =
+unaltered header tree s t t' (Ok b) w z u u' c x =
     λ long alike. (answer header tree s t t' b w z u u' c x long alike, stays header tree s t t' b w z u u' c x long alike)
-unaltered header tree s t t' (BlendAnswer.Refused y) w z u u' c x = tt
-unaltered header tree s t t' (BlendAnswer.TableTooShort n) w z u u' c x = tt
+unaltered header tree s t t' (Err (BlendError.Fault y)) w z u u' c x = tt
+unaltered header tree s t t' (Err (BlendError.TableTooShort n)) w z u u' c x = tt
 
 pub no_other_object : NoOtherObject
 no_other_object = unaltered header_bytes header_tree

@@ -1,4 +1,5 @@
 -- The demands of the walker, in both its forms: a walk from the start to the end mark has the rows of the file that the rules read, since there is no other walk.
+use Rattle.std.specs.Prelude.{None}
 use Prim.Native.Nat.{ℕ, ◌+◌, ◌<◌, ◌≤◌}
 use mathlib.Core.Bool.{true}
 use mathlib.Core.List.{List}
@@ -11,7 +12,6 @@ use Rattle.octets.specs.Reader.Outcome.{read, fault}
 use Rattle.dna.specs.declared.dna.DnaCounts.{DnaCounts}
 use Rattle.header.specs.declared.Header.{Header}
 use Rattle.block.specs.declared.Row.{Row}
-use Rattle.blend.specs.declared.blend.Last.{Last}
 use Rattle.walker.specs.declared.Place.{Place}
 use Rattle.block.specs.Kinds.{code_number, kind_of}
 use Rattle.blend.specs.Blocks.{is_dna}
@@ -121,10 +121,10 @@ module _ (s : List ℕ) (rows : List Row) (end : ℕ) (w : Walk (Stepped header_
     there = rw x.same k
 
     before : (get_or f.chain.rows i none).payload + (get_or f.chain.rows i none).len ≤ end
-    before = payload-before f.header s f.chain.rows x.first Last.Other x.counts end (links header_bytes header_tree s z f x.first x.counts end x.found x.last like) i there
+    before = payload-before f.header s f.chain.rows x.first None x.counts end (links header_bytes header_tree s z f x.first x.counts end x.found x.last like) i there
 
     inside : end ≤ length s
-    inside = (linked-ends f.header s f.chain.rows x.first Last.Other x.counts end (links header_bytes header_tree s z f x.first x.counts end x.found x.last like)).1
+    inside = (linked-ends f.header s f.chain.rows x.first None x.counts end (links header_bytes header_tree s z f x.first x.counts end x.found x.last like)).1
 
     payload : Untouched s z (get_or rows i none).payload ((get_or rows i none).payload + (get_or rows i none).len) → payload_of z (get_or rows i none) ≡ payload_of s (get_or rows i none)
     payload u =
@@ -136,7 +136,7 @@ module _ (s : List ℕ) (rows : List Row) (end : ℕ) (w : Walk (Stepped header_
     catalogue d =
         let q : is_dna (kind_of (get_or f.chain.rows i none).code) ≡ true = ap (λ (rs : List Row). is_dna (kind_of (get_or rs i none).code)) x.same ∙ ap (λ (n : ℕ). is_dna (kind_of n)) d in
         subst (λ (rs : List Row). payload_of z (get_or rs i none) ≡ payload_of s (get_or rs i none)) x.same
-        (dna-kept f.header s z f.chain.rows x.first Last.Other x.counts end (links header_bytes header_tree s z f x.first x.counts end x.found x.last like)
+        (dna-kept f.header s z f.chain.rows x.first None x.counts end (links header_bytes header_tree s z f x.first x.counts end x.found x.last like)
         like.long (near header_bytes header_tree s z f x.first x.counts end x.found x.last like) i there q)
 
   walks-on : WalksOn s rows z

@@ -1,5 +1,5 @@
 -- Cover: in a file that is read, header, block headers, payloads and end mark cover the file up to the end of that mark, each byte once, in order.
-use Rattle.std.specs.Prelude.{ℕ, ◌+◌, ◌≤◌, false, List, [], ◌∷◌, ◌++◌, ◌≡◌, length, take}
+use Rattle.std.specs.Prelude.{ℕ, ◌+◌, ◌≤◌, false, List, [], ◌∷◌, ◌++◌, ◌≡◌, length, take, Result, Ok, Err}
 use Rattle.std.specs.Borrow.{Bor}
 use Rattle.block.specs.Spelling.{told, Spell}
 use Rattle.octets.specs.Looks.{part}
@@ -11,8 +11,8 @@ use Rattle.octets.specs.Reader.{Reader, Outcome, run, stands}
 use Rattle.octets.specs.Reader.Outcome.{read}
 use Rattle.header.specs.declared.Header.{Header}
 use Rattle.block.specs.declared.Row.{Row}
-use Rattle.header.specs.declared.blend.HeaderAnswer.{HeaderAnswer}
-use Rattle.blend.specs.declared.blend.BlendAnswer.{BlendAnswer}
+use Rattle.blend.specs.declared.blend.RawBlend.{RawBlend}
+use Rattle.blend.specs.declared.blend.BlendError.{BlendError}
 use Rattle.header.specs.Header.{HeaderBytes, header_length, header_bytes, valued, edition, order}
 use Rattle.header.specs.Layout.{layout, block_header_length}
 use Rattle.block.specs.Rows.{payload_of}
@@ -70,14 +70,14 @@ pub record Covered (header : Reader HeaderBytes) (s : List ℕ) (h : Header) (ro
   pub abut : Abut (header_length h.format) rows end
 
 -- the claim of an answer of `blend` and the table that it leaves; of a refusal nothing is said
-abbrev pub CoveredBy : Reader HeaderBytes → List ℕ → BlendAnswer → List ℕ → Type 0
-CoveredBy header s (BlendAnswer.Is b) t' = Covered header s b.header (rows_in t' b.rows) b.end
-CoveredBy header s (BlendAnswer.Refused x) t' = Unit {0}
-CoveredBy header s (BlendAnswer.TableTooShort n) t' = Unit {0}
+abbrev pub CoveredBy : Reader HeaderBytes → List ℕ → Result RawBlend BlendError → List ℕ → Type 0
+CoveredBy header s (Ok b) t' = Covered header s b.header (rows_in t' b.rows) b.end
+CoveredBy header s (Err (BlendError.Fault x)) t' = Unit {0}
+CoveredBy header s (Err (BlendError.TableTooShort n)) t' = Unit {0}
 
 -- Whatever `blend` answers of a file, and leaves in the table, covers the file.
 abbrev pub Cover : Reader HeaderBytes → (List ℕ → Outcome File) → Type 0
-Cover header reading = (s t t' : List ℕ) (r : BlendAnswer) → Answers reading s t r t' → CoveredBy header s r t'
+Cover header reading = (s t t' : List ℕ) (r : Result RawBlend BlendError) → Answers reading s t r t' → CoveredBy header s r t'
 
 -- whatever tree reads the header, if it is one that takes its edition's bytes and looks at no others
 abbrev pub EveryBlockBy : Type 0
@@ -97,7 +97,7 @@ EveryBlockExported =
 
 -- The same of a walk from the start to the end mark, by places and by a walker that holds the file, with the header that `header` answers.
 abbrev pub CoveredFile : List ℕ → List Row → ℕ → Type 0
-CoveredFile s rows end = (h : Header) × («blend::header» s (HeaderAnswer.Is h (header_length h.format))) × Covered header_bytes s h rows end
+CoveredFile s rows end = (h : Header) × («blend::header» s (Ok (h, (header_length h.format)))) × Covered header_bytes s h rows end
 
 abbrev pub EveryBlockWalked : Type 0
 EveryBlockWalked = (s : List ℕ) (rows : List Row) (end : ℕ) → Walk (λ p r. «Place::step» p s r) start rows (ended end) → CoveredFile s rows end

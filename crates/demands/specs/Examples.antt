@@ -1,6 +1,6 @@
 -- Examples at the edges: those that document 01 marks with P, as one list, and those of request 3 of document 02, with one claim, of what the calls answer; and the
 -- scenes that the demands are tried on.
-use Rattle.std.specs.Prelude.{ℕ, ◌+◌, ◌-◌, List, [], ◌∷◌, ◌++◌, ◌≡◌, replicate}
+use Rattle.std.specs.Prelude.{ℕ, ◌+◌, ◌-◌, List, [], ◌∷◌, ◌++◌, ◌≡◌, replicate, Result, Ok}
 use Rattle.octets.specs.declared.Endianness.{Endianness}
 use Rattle.octets.specs.declared.Endianness.TheVariants.{Little, Big}
 use Rattle.octets.specs.declared.PointerSize.{PointerSize}
@@ -9,17 +9,17 @@ use Rattle.octets.specs.Ascii.{ascii}
 use Rattle.octets.specs.Paper.{Paper}
 use Rattle.octets.specs.Paper.Paper.{refuses}
 use Rattle.octets.specs.Tables.{over}
-use Rattle.field.specs.declared.field.FnPointerField.{FnPointerField}
-use Rattle.field.specs.declared.field.ParsedField.{ParsedField}
+use Rattle.field.specs.declared.field.Declarator.{Declarator}
+use Rattle.octets.specs.declared.Fault.{Fault}
+use Rattle.field.specs.declared.field.FieldError.{FieldError}
 use Rattle.field.specs.Calls.{field::fn_pointer, field::parse_field}
 use Rattle.field.specs.Declarators.{told_as, paper_field, paper_function}
 use Rattle.header.specs.declared.FileFormat.{FileFormat}
 use Rattle.header.specs.declared.FileFormat.TheVariants.{Legacy, New}
 use Rattle.header.specs.declared.Header.{Header}
 use Rattle.header.specs.declared.Version.{Version}
-use Rattle.header.specs.declared.blend.HeaderAnswer.{HeaderAnswer}
 use Rattle.blend.specs.declared.blend.RawBlend.{RawBlend}
-use Rattle.blend.specs.declared.blend.BlendAnswer.{BlendAnswer}
+use Rattle.blend.specs.declared.blend.BlendError.{BlendError}
 use Rattle.header.specs.Calls.{«blend::header»}
 use Rattle.blend.specs.Calls.{«blend::blend»}
 use Rattle.blend.specs.Chain.{paper_blend}
@@ -31,12 +31,12 @@ pub data Example : Type 0 where
   function : List ℕ → Paper → Example  -- a field's name, and what is answered of it as a function pointer
 
 abbrev pub Holds : Example → Type 0
-Holds (file s answer) = (t t' : List ℕ) (r : BlendAnswer) → «blend::blend» s t r t' → paper_blend r ≡ answer
+Holds (file s answer) = (t t' : List ℕ) (r : Result RawBlend BlendError) → «blend::blend» s t r t' → paper_blend r ≡ answer
 Holds (version s major minor) =
-    (r : HeaderAnswer) → «blend::header» s r → (h : Header) × (at : ℕ) × (r ≡ HeaderAnswer.Is h at) × (h.version ≡ record { major = major; minor = minor })
+    (r : Result (Header × ℕ) Fault) → «blend::header» s r → (h : Header) × (at : ℕ) × (r ≡ Ok (h, at)) × (h.version ≡ record { major = major; minor = minor })
 Holds (declarator s answer dimensions) =
-    (r : ParsedField) (t' : List ℕ) → field::parse_field s (9 ∷ 9 ∷ []) r t' → (paper_field r ≡ answer) × (t' ≡ over dimensions (9 ∷ 9 ∷ []))
-Holds (function s answer) = (r : FnPointerField) → field::fn_pointer s r → paper_function r ≡ answer
+    (r : Result Declarator FieldError) (t' : List ℕ) → field::parse_field s (9 ∷ 9 ∷ []) r t' → (paper_field r ≡ answer) × (t' ≡ over dimensions (9 ∷ 9 ∷ []))
+Holds (function s answer) = (r : Result Declarator Fault) → field::fn_pointer s r → paper_function r ≡ answer
 
 abbrev pub All : List Example → Type 0
 All [] = Unit {0}
@@ -193,6 +193,6 @@ table_in f p =
 
 -- All are read: the first two with the same answer and the same table, and the scene in every form.
 pub record ScenesAreRead : Type 0 where
-  pub of-sound : «blend::blend» sound before (BlendAnswer.Is answer) after
-  pub of-changed : «blend::blend» changed before (BlendAnswer.Is answer) after
-  pub of_forms : (f : FileFormat) (p : PointerSize) (e : Endianness) → «blend::blend» (scene_in f p e) (replicate 14 9) (BlendAnswer.Is (answer_in f p e)) (table_in f p)
+  pub of-sound : «blend::blend» sound before (Ok answer) after
+  pub of-changed : «blend::blend» changed before (Ok answer) after
+  pub of_forms : (f : FileFormat) (p : PointerSize) (e : Endianness) → «blend::blend» (scene_in f p e) (replicate 14 9) (Ok (answer_in f p e)) (table_in f p)

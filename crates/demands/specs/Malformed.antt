@@ -1,5 +1,5 @@
 -- Why a file is malformed, and where (request 3 of document 02): 16 and 17, each with its place, in the place of 2. Laws of the contracts of the calls that gave 2.
-use Rattle.std.specs.Prelude.{ℕ, ◌+◌, ◌/◌, ◌≤◌, ◌<◌, true, false, List, [], ◌∷◌, ◌++◌, ◌≡◌, ltb, length, take}
+use Rattle.std.specs.Prelude.{ℕ, ◌+◌, ◌/◌, ◌≤◌, ◌<◌, true, false, List, [], ◌∷◌, ◌++◌, ◌≡◌, ltb, length, take, Result, Ok, Err}
 use Rattle.octets.specs.declared.Endianness.{Endianness}
 use Rattle.octets.specs.Former.{former_fault, former_told, as_two}
 use Rattle.octets.specs.Paper.{Paper}
@@ -7,27 +7,26 @@ use Rattle.octets.specs.Paper.Paper.{accepts, refuses}
 use Rattle.octets.specs.Reader.{Outcome, run}
 use Rattle.octets.specs.Reader.Outcome.{read, fault}
 use Rattle.octets.specs.Refusals.{paper_fault}
-use Rattle.octets.specs.Cursor.{paper_numbered, paper_moved, paper_begun}
-use Rattle.octets.specs.Cursor as cursor
+use Rattle.octets.specs.declared.cursor.Cursor.{Cursor}
+use Rattle.octets.specs.Cursor.{paper_found, paper_moved, paper_begun}
 use Rattle.header.specs.declared.Header.{Header}
-use Rattle.header.specs.declared.blend.HeaderAnswer.{HeaderAnswer}
+use Rattle.octets.specs.declared.Fault.{Fault}
 use Rattle.header.specs.Header.{header_bytes, header_numbers, valued, paper_header, paper_pointer_size, paper_endianness, paper_version}
 use Rattle.header.specs.Calls as header
 use Rattle.dna.specs.declared.dna.DnaCounts.{DnaCounts}
-use Rattle.dna.specs.declared.dna.DnaCounted.{DnaCounted}
-use Rattle.dna.specs.declared.dna.DnaTables.{DnaTables}
+use Rattle.dna.specs.declared.dna.DnaError.{DnaError}
 use Rattle.dna.specs.Catalogue.{Dna, Rooms, catalogue, rooms, counts, count_numbers, counts_only, answer_for, paper_tables, paper_counted}
 use Rattle.dna.specs.Calls as dna
-use Rattle.field.specs.declared.field.FnPointerField.{FnPointerField}
+use Rattle.field.specs.declared.field.Declarator.{Declarator}
 use Rattle.field.specs.Declarators.{paper_function}
 use Rattle.field.specs.Former.{former_function_as}
 use Rattle.field.specs.Calls as field
 use Rattle.block.specs.declared.Row.{Row}
 use Rattle.block.specs.BlockHeaders.{paper_block_header}
 use Rattle.block.specs.Rows.{per_row, row_numbers}
-use Rattle.blend.specs.declared.blend.BlendAnswer.{BlendAnswer}
-use Rattle.blend.specs.declared.blend.Boundary.{Boundary}
 use Rattle.blend.specs.declared.blend.RawBlend.{RawBlend}
+use Rattle.blend.specs.declared.blend.BlendError.{BlendError}
+use Rattle.blend.specs.declared.blend.Boundary.{Boundary}
 use Rattle.blend.specs.Blocks.{boundary_of, paper_boundary}
 use Rattle.blend.specs.Chain.{File, file_by, paper_blend}
 use Rattle.blend.specs.Calls as blend
@@ -61,10 +60,10 @@ abbrev pub former_tables_as : Outcome Dna → Rooms → Paper
 former_tables_as (read d next) r = answer_for (counts d) r
 former_tables_as (fault f) r = refuses 2 []
 
-abbrev pub former_step_over : Place → Boundary → Paper
-former_step_over b Boundary.EndMark = end_mark b.dna (b.at + 4)
-former_step_over b (Boundary.Block r l next) = accepts 0 (row_numbers r)
-former_step_over b (Boundary.Stopped f) = former_fault f
+abbrev pub former_step_over : Place → Result Boundary Fault → Paper
+former_step_over b (Ok Boundary.EndMark) = end_mark b.dna (b.at + 4)
+former_step_over b (Ok (Boundary.Block r l next)) = accepts 0 (row_numbers r)
+former_step_over b (Err f) = former_fault f
 
 abbrev pub former_on_header : List ℕ → Place → Outcome Header → Paper
 former_on_header s p (read h first) = former_step_over (stands_for first p) (boundary_of h s (stands_for first p).at)
@@ -79,15 +78,15 @@ AsBefore now former = (as_two now ≡ former) × ((vs : List ℕ) → now ≡ re
 
 -- So is the answer of every call that gave 2, for every input; for other languages the answer that the struct of numbers tells.
 pub record WhereTwoWas : Type 0 where
-  pub of-header : (s : List ℕ) (r : HeaderAnswer) → header.«blend::header» s r → AsBefore (paper_header r) (former_told header_numbers (valued (run header_bytes s 0)))
-  pub of-blend : (s t t' : List ℕ) (r : BlendAnswer) → blend.«blend::blend» s t r t' → AsBefore (paper_blend r) (former_read_as (file_by header_bytes s) (length t / per_row))
+  pub of-header : (s : List ℕ) (r : Result (Header × ℕ) Fault) → header.«blend::header» s r → AsBefore (paper_header r) (former_told header_numbers (valued (run header_bytes s 0)))
+  pub of-blend : (s t t' : List ℕ) (r : Result RawBlend BlendError) → blend.«blend::blend» s t r t' → AsBefore (paper_blend r) (former_read_as (file_by header_bytes s) (length t / per_row))
   pub of-step : (s : List ℕ) (p : Place) (r : Step) → walker.«Place::step» p s r → AsBefore (paper_step r) (former_step_as s p)
   pub of-held : (w : Walker) (r : Step) → held.«next» w r → AsBefore (paper_step r) (former_step_as w.file.now w.place)
-  pub of-dna : (s : List ℕ) (e : Endianness) (n t u f n' t' u' f' : List ℕ) (r : DnaTables) → dna.«dna::dna» s e n t u f r n' t' u' f'
+  pub of-dna : (s : List ℕ) (e : Endianness) (n t u f n' t' u' f' : List ℕ) (r : Result DnaCounts DnaError) → dna.«dna::dna» s e n t u f r n' t' u' f'
       → AsBefore (paper_tables r) (former_tables_as (run (catalogue e) s 0) (rooms (length n) (length t) (length u) (length f)))
-  pub of-counts : (s : List ℕ) (e : Endianness) (r : DnaCounted) → dna.dna::dna_counts s e r
+  pub of-counts : (s : List ℕ) (e : Endianness) (r : Result (DnaCounts × ℕ) Fault) → dna.dna::dna_counts s e r
       → AsBefore (paper_counted r) (former_told count_numbers (counts_only (run (catalogue e) s 0)))
-  pub of_function : (name : List ℕ) (r : FnPointerField) → field.field::fn_pointer name r → AsBefore (paper_function r) (former_function_as name)
+  pub of_function : (name : List ℕ) (r : Result Declarator Fault) → field.field::fn_pointer name r → AsBefore (paper_function r) (former_function_as name)
   pub header_exported : (s : List ℕ) (r : BlendHeader) → exports.blend_header s r
       → (p : Paper) × (r ≡ header_out p) × AsBefore p (former_told header_numbers (valued (run header_bytes s 0)))
   pub read_exported : (s t t' : List ℕ) (r : BlendRead) → exports.blend_read s t r t'
@@ -105,16 +104,16 @@ CutTold k p = (k < 7 → p ≡ refuses 1 []) × (7 ≤ k → CutAt k p)
 -- A cut upload is told: a file that is read, stopped anywhere before the end of its end mark, is refused, with 1 where fewer than 7 bytes are left and otherwise with 16, at an
 -- offset of at most its length. So no 17 comes of it. The same of a catalogue by itself, stopped before the end of its last struct.
 pub record CutUpload : Type 0 where
-  pub of-file : (s t t' : List ℕ) (b : RawBlend) → blend.«blend::blend» s t (BlendAnswer.Is b) t' → (k : ℕ) → k < b.end
-      → (u u' : List ℕ) (r : BlendAnswer) → blend.«blend::blend» (take k s) u r u' → CutTold k (paper_blend r)
-  pub of-header : (s : List ℕ) (h : Header) (end : ℕ) → header.«blend::header» s (HeaderAnswer.Is h end) → (k : ℕ) → k < end
-      → (r : HeaderAnswer) → header.«blend::header» (take k s) r → CutTold k (paper_header r)
+  pub of-file : (s t t' : List ℕ) (b : RawBlend) → blend.«blend::blend» s t (Ok b) t' → (k : ℕ) → k < b.end
+      → (u u' : List ℕ) (r : Result RawBlend BlendError) → blend.«blend::blend» (take k s) u r u' → CutTold k (paper_blend r)
+  pub of-header : (s : List ℕ) (h : Header) (end : ℕ) → header.«blend::header» s (Ok (h, end)) → (k : ℕ) → k < end
+      → (r : Result (Header × ℕ) Fault) → header.«blend::header» (take k s) r → CutTold k (paper_header r)
   pub of_exported : (s t t' : List ℕ) (r : BlendRead) → exports.blend_read s t r t' → r.refusal ≡ 0 → (k : ℕ) → k < r.end
       → (u u' : List ℕ) (q : BlendRead) → exports.blend_read (take k s) u q u' → (p : Paper) × (q ≡ read_out p) × CutTold k p
-  pub of-counts : (s : List ℕ) (e : Endianness) (n : DnaCounts) (end : ℕ) → dna.dna::dna_counts s e (DnaCounted.Are n end) → (k : ℕ) → k < end
-      → (r : DnaCounted) → dna.dna::dna_counts (take k s) e r → CutAt k (paper_counted r)
-  pub of_tables : (s : List ℕ) (e : Endianness) (n : DnaCounts) (end : ℕ) → dna.dna::dna_counts s e (DnaCounted.Are n end) → (k : ℕ) → k < end
-      → (m t u f m' t' u' f' : List ℕ) (r : DnaTables) → dna.«dna::dna» (take k s) e m t u f r m' t' u' f' → CutAt k (paper_tables r)
+  pub of-counts : (s : List ℕ) (e : Endianness) (n : DnaCounts) (end : ℕ) → dna.dna::dna_counts s e (Ok (n, end)) → (k : ℕ) → k < end
+      → (r : Result (DnaCounts × ℕ) Fault) → dna.dna::dna_counts (take k s) e r → CutAt k (paper_counted r)
+  pub of_tables : (s : List ℕ) (e : Endianness) (n : DnaCounts) (end : ℕ) → dna.dna::dna_counts s e (Ok (n, end)) → (k : ℕ) → k < end
+      → (m t u f m' t' u' f' : List ℕ) (r : Result DnaCounts DnaError) → dna.«dna::dna» (take k s) e m t u f r m' t' u' f' → CutAt k (paper_tables r)
 
 -- For other languages a step of the walker is a call over numbers, so that a caller can go up to the fault and say in which block it is. From the start the steps give the
 -- rows that `blend_read` leaves in the table, one after another, and then its end, or its refusal with its place; where the table is too short for it, the rows that 7
@@ -141,10 +140,10 @@ Whole {A} paper = (a b : A) → paper a ≡ paper b → a ≡ b
 
 pub record PapersLoseNothing : Type 0 where
   pub of-fault : Whole paper_fault
-  pub of_number : Whole paper_numbered
+  pub of_number : Whole paper_found
   pub of_move : Whole paper_moved
-  pub of-run : Whole cursor.paper_counted
-  pub of-begins : Whole paper_begun
+  pub of-run : Whole paper_found
+  pub of-begins : (here : Cursor) → Whole (paper_begun here)
   pub of-pointer_size : Whole paper_pointer_size
   pub of-endianness : Whole paper_endianness
   pub of-version : Whole paper_version

@@ -1,18 +1,19 @@
 -- One object's bytes cannot alter another's: a second file that differs from one that is read only inside the payloads of blocks other than DNA1, or in any
 -- way after the end mark, is read too, with the same header, rows, end and counts, and every untouched payload shows the same bytes.
-use Rattle.std.specs.Prelude.{ℕ, zero, suc, ◌+◌, ◌≤◌, ◌<◌, Bool, true, false, not, ◌&&◌, ◌||◌, List, [], ◌∷◌, ◌≡◌, leb, ltb, eqb, length, get_or}
+use Rattle.std.specs.Prelude.{ℕ, zero, suc, ◌+◌, ◌≤◌, ◌<◌, Bool, true, false, not, ◌&&◌, ◌||◌, List, [], ◌∷◌, ◌≡◌, leb, ltb, eqb, length, get_or, Result, Ok, Err}
 use Rattle.std.specs.Borrow.{Bor}
 use Rattle.octets.specs.Looks.{Untouched}
 use Rattle.octets.specs.declared.Endianness.{Endianness}
 use Rattle.octets.specs.Paper.Paper.{accepts}
 use Rattle.octets.specs.Reader.{Reader, Outcome, run}
 use Rattle.octets.specs.Tables.{over}
-use Rattle.dna.specs.declared.dna.DnaTables.{DnaTables}
+use Rattle.dna.specs.declared.dna.DnaCounts.{DnaCounts}
+use Rattle.dna.specs.declared.dna.DnaError.{DnaError}
 use Rattle.dna.specs.Catalogue.{catalogue, Filled}
 use Rattle.block.specs.declared.Row.{Row}
 use Rattle.header.specs.declared.Header.{Header}
-use Rattle.header.specs.declared.blend.HeaderAnswer.{HeaderAnswer}
-use Rattle.blend.specs.declared.blend.BlendAnswer.{BlendAnswer}
+use Rattle.blend.specs.declared.blend.RawBlend.{RawBlend}
+use Rattle.blend.specs.declared.blend.BlendError.{BlendError}
 use Rattle.block.specs.Kinds.{code_number}
 use Rattle.block.specs.Rows.{payload_of, Column, cell, none}
 use Rattle.blend.specs.Calls.{Answers}
@@ -23,7 +24,7 @@ use Rattle.header.specs.Header.{HeaderBytes, header_bytes}
 use Rattle.walker.specs.Walker.{start, Walk}
 use Rattle.walker.specs.Walker.Stop.{ended}
 use Rattle.runtime.specs.Views.{view_as, part_as}
-use Rattle.index.specs.declared.index.Indexed.{Indexed}
+use Rattle.index.specs.declared.index.IndexError.{IndexError}
 use Rattle.index.specs.Calls.{«index::build»}
 use Rattle.held.specs.declared.Walker.{Walker}
 use Rattle.held.specs.Calls as held
@@ -60,7 +61,7 @@ WroteSame t t' u u' = (new : List ℕ) × (t' ≡ over new t) × (u' ≡ over ne
 -- `dna` on two payloads, in one order, with tables of the same lengths: the same answer, and the same numbers written into each table
 abbrev pub SameCatalogue : Endianness → List ℕ → List ℕ → Type 0
 SameCatalogue e p q =
-    (n t s f n' t' s' f' m u v g m' u' v' g' : List ℕ) (a c : DnaTables) → length m ≡ length n → length u ≡ length t → length v ≡ length s → length g ≡ length f
+    (n t s f n' t' s' f' m u v g m' u' v' g' : List ℕ) (a c : Result DnaCounts DnaError) → length m ≡ length n → length u ≡ length t → length v ≡ length s → length g ≡ length f
     → Filled (run (catalogue e) p 0) a n t s f n' t' s' f' → Filled (run (catalogue e) q 0) c m u v g m' u' v' g'
     → (c ≡ a) × WroteSame n n' m m' × WroteSame t t' u u' × WroteSame s s' v v' × WroteSame f f' g g'
 
@@ -68,7 +69,7 @@ SameCatalogue e p q =
 -- each table
 abbrev pub SameIndex : List ℕ → List ℕ → (rows buckets : ℕ) → Type 0
 SameIndex t u rows buckets =
-    (heads links heads' links' firsts nexts firsts' nexts' : List ℕ) (a c : Indexed) → length firsts ≡ length heads → length nexts ≡ length links
+    (heads links heads' links' firsts nexts firsts' nexts' : List ℕ) (a c : Result (Unit {0}) IndexError) → length firsts ≡ length heads → length nexts ≡ length links
     → «index::build» t rows buckets heads links a heads' links' → «index::build» u rows buckets firsts nexts c firsts' nexts'
     → (c ≡ a) × WroteSame heads heads' firsts firsts' × WroteSame links links' nexts nexts'
 
@@ -86,15 +87,15 @@ pub record Stays (s t t' : List ℕ) (n : ℕ) (e : Endianness) (z u u' : List �
   pub index : (m buckets : ℕ) → m ≤ n → SameIndex t' u' m buckets
 
 -- the claim of two answers of `blend`: where the first is no refusal, the second has the same header, number of rows, end offset and counts, and the rest stays
-abbrev pub UnalteredBy : (s t : List ℕ) → BlendAnswer → (t' z u : List ℕ) → BlendAnswer → List ℕ → Type 0
-UnalteredBy s t (BlendAnswer.Is b) t' z u c u' =
-    length u ≡ length t → Alike (rows_in t' b.rows) b.end s z → (c ≡ BlendAnswer.Is b) × Stays s t t' b.rows b.header.endianness z u u'
-UnalteredBy s t (BlendAnswer.Refused x) t' z u c u' = Unit {0}
-UnalteredBy s t (BlendAnswer.TableTooShort n) t' z u c u' = Unit {0}
+abbrev pub UnalteredBy : (s t : List ℕ) → Result RawBlend BlendError → (t' z u : List ℕ) → Result RawBlend BlendError → List ℕ → Type 0
+UnalteredBy s t (Ok b) t' z u c u' =
+    length u ≡ length t → Alike (rows_in t' b.rows) b.end s z → (c ≡ Ok b) × Stays s t t' b.rows b.header.endianness z u u'
+UnalteredBy s t (Err (BlendError.Fault x)) t' z u c u' = Unit {0}
+UnalteredBy s t (Err (BlendError.TableTooShort n)) t' z u c u' = Unit {0}
 
 -- Whatever `blend` answers of two such files with tables of the same length, where it reads the first.
 abbrev pub Unaltered : (List ℕ → Outcome File) → Type 0
-Unaltered reading = (s t t' : List ℕ) (r : BlendAnswer) → Answers reading s t r t' → (z u u' : List ℕ) (c : BlendAnswer) → Answers reading z u c u' → UnalteredBy s t r t' z u c u'
+Unaltered reading = (s t t' : List ℕ) (r : Result RawBlend BlendError) → Answers reading s t r t' → (z u u' : List ℕ) (c : Result RawBlend BlendError) → Answers reading z u c u' → UnalteredBy s t r t' z u c u'
 
 -- whatever tree reads the header, as in Cover.antt
 abbrev pub NoOtherObjectBy : Type 0
@@ -113,7 +114,7 @@ NoOtherObjectExported =
 -- The same of a walk from the start to the end mark: the second file's has the same rows and the same end, every untouched payload has the same bytes, and so has
 -- every DNA1's.
 pub record WalksOn (s : List ℕ) (rows : List Row) (z : List ℕ) : Type 0 where
-  pub header : (h : Header) (at : ℕ) → «blend::header» s (HeaderAnswer.Is h at) → «blend::header» z (HeaderAnswer.Is h at)
+  pub header : (h : Header) (at : ℕ) → «blend::header» s (Ok (h, at)) → «blend::header» z (Ok (h, at))
   pub payloads : (i : ℕ) → i < length rows → Untouched s z (get_or rows i none).payload ((get_or rows i none).payload + (get_or rows i none).len) → payload_of z (get_or rows i none) ≡ payload_of s (get_or rows i none)
   pub catalogues : (i : ℕ) → i < length rows → (get_or rows i none).code ≡ code_number "DNA1" → payload_of z (get_or rows i none) ≡ payload_of s (get_or rows i none)
 

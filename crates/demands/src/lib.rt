@@ -4,20 +4,20 @@
 
 ghost use Rattle.demands.specs.Calls as calls;
 
-use blend::blend::{BlendAnswer, blend};
+use blend::blend::{BlendError, RawBlend, blend};
 
 /// Reads a file. Where it is read, header, blocks and end mark cover it up to the end of that mark, each byte once, in order.
-pub fn read(file: &[u8], table: &mut [u64]) -> BlendAnswer
+pub fn read(file: &[u8], table: &mut [u64]) -> Result<RawBlend, BlendError>
     ensures { calls.«read» file.now table.old result table.new }
 {
     blend(file, table)
 }
 
 /// The answers of two files.
-#[derive(Clone, Copy)]
+#[derive(Clone, Copy, Debug, PartialEq, Eq)]
 pub struct Two {
-    pub one: BlendAnswer,
-    pub other: BlendAnswer,
+    pub one: Result<RawBlend, BlendError>,
+    pub other: Result<RawBlend, BlendError>,
 }
 
 /// Reads two files. Where the first is read and the second differs from it only inside payloads of blocks other than DNA1, or after the end mark, the second is

@@ -1,27 +1,26 @@
 -- From the pass that counts and the four that fill to what `dna` answers and writes.
 use Prim.Native.Nat.{ℕ, ◌+◌, ◌*◌, ◌≤◌, ◌<◌}
-use mathlib.Core.Bool.{Bool, true, false}
 use mathlib.Core.List.{List, [], ◌∷◌}
 use mathlib.Core.Path.{◌≡◌, refl, sym, ◌∙◌, ap}
 use native.Mathlib.Omega.{arith}
-use borrow.Author.Tests.{lt-ltb, le-ltb, ltb-true, ltb-false}
-use lib.Dec.{ltb}
+use borrow.Author.Tests.{lt-ltb, le-ltb}
 use lib.ListN.{length, length-append}
+use Rattle.std.specs.Prelude.{Ok, Err}
 use Rattle.octets.specs.declared.Endianness.{Endianness}
 use Rattle.octets.specs.declared.Fault.{Fault}
 use Rattle.octets.specs.Helpers.{put}
 use Rattle.octets.specs.Paper.Paper.{accepts, refuses}
 use Rattle.octets.specs.Reader.{Outcome}
-use Rattle.octets.specs.Reader.Outcome.{read, fault}
+use Rattle.octets.specs.Reader.Outcome.{fault}
 use Rattle.octets.specs.Refusals.{catalogue_table_too_short}
 use Rattle.octets.specs.Tables.{written}
 use Rattle.octets.proofs.Filling.{put-over, accepted-written, refused-kept}
 use Rattle.octets.proofs.Tests.{held, failed}
 use Rattle.dna.specs.declared.dna.DnaCounts.{DnaCounts}
-use Rattle.dna.specs.declared.dna.DnaTables.{DnaTables}
+use Rattle.dna.specs.declared.dna.DnaError.{DnaError}
 use Rattle.dna.specs.declared.dna.Layout.{Layout}
-use Rattle.dna.specs.Catalogue.{Text, Struct, Dna, Rooms, pairs, type_rows, struct_rows, field_rows, field_count, counts, counts_only, answer_for, read_as, rows_of, rooms, paper_tables, Filled}
-use Rattle.dna.specs.Passes.{Whole, dna_at}
+use Rattle.dna.specs.Catalogue.{Text, Struct, Dna, Rooms, pairs, type_rows, struct_rows, field_rows, field_count, counts, count_numbers, answer_for, read_as, rows_of, rooms, paper_error, Filled}
+use Rattle.dna.specs.Passes.{Whole, AllFit, dna_at, counts_of}
 
 -- the first table that is too short, and none
 module _ (n : DnaCounts) (r : Rooms) where
@@ -44,53 +43,9 @@ module _ (n : DnaCounts) (r : Rooms) where
         unfolding answer_for
         fields-short h = sym (failed _ _ (le-ltb _ _ a) ∙ failed _ _ (le-ltb _ _ b) ∙ failed _ _ (le-ltb _ _ c) ∙ held _ _ (lt-ltb _ _ h))
 
-        pub none-short : n.fields ≤ r.fields → accepts 0 (n.names ∷ n.types ∷ n.structs ∷ n.fields ∷ []) ≡ answer_for n r
-        unfolding answer_for
-        none-short h = sym (failed _ _ (le-ltb _ _ a) ∙ failed _ _ (le-ltb _ _ b) ∙ failed _ _ (le-ltb _ _ c) ∙ failed _ _ (le-ltb _ _ h))
-
--- where none is too short each has its rows
-pub record AllFit (n : DnaCounts) (r : Rooms) : Type 0 where
-  pub names-fit : n.names ≤ r.names
-  pub types-fit : n.types ≤ r.types
-  pub structs-fit : n.structs ≤ r.structs
-  pub fields_fit : n.fields ≤ r.fields
-
-pub all_fit : (n : DnaCounts) (r : Rooms) (vs : List ℕ) → accepts 0 vs ≡ answer_for n r → AllFit n r
-all_fit n r vs h = record { names-fit = a; types-fit = b; structs-fit = c; fields_fit = d }
-  where
-    never : {X : Type 0} (which rows : ℕ) → catalogue_table_too_short which rows ≡ answer_for n r → X
-    never which rows g =
-        let q : accepts 0 vs ≡ catalogue_table_too_short which rows = h ∙ sym g in
-        let z : ◌≡◌ {A = ℕ} 0 1 = cc in
-        absurd (omega arith)
-
-    a : n.names ≤ r.names
-    a = go (ltb r.names n.names) refl
-      where
-        go : (t : Bool) → ltb r.names n.names ≡ t → n.names ≤ r.names
-        go true t = never 1 n.names (names-short n r (ltb-true _ _ t))
-        go false t = ltb-false _ _ t
-
-    b : n.types ≤ r.types
-    b = go (ltb r.types n.types) refl
-      where
-        go : (t : Bool) → ltb r.types n.types ≡ t → n.types ≤ r.types
-        go true t = never 2 n.types (types-short n r a (ltb-true _ _ t))
-        go false t = ltb-false _ _ t
-
-    c : n.structs ≤ r.structs
-    c = go (ltb r.structs n.structs) refl
-      where
-        go : (t : Bool) → ltb r.structs n.structs ≡ t → n.structs ≤ r.structs
-        go true t = never 3 n.structs (structs-short n r a b (ltb-true _ _ t))
-        go false t = ltb-false _ _ t
-
-    d : n.fields ≤ r.fields
-    d = go (ltb r.fields n.fields) refl
-      where
-        go : (t : Bool) → ltb r.fields n.fields ≡ t → n.fields ≤ r.fields
-        go true t = never 4 n.fields (fields-short n r a b c (ltb-true _ _ t))
-        go false t = ltb-false _ _ t
+  none-short : AllFit n r → accepts 0 (count_numbers n) ≡ answer_for n r
+  unfolding answer_for
+  none-short f = sym (failed _ _ (le-ltb _ _ f.names_fit) ∙ failed _ _ (le-ltb _ _ f.types_fit) ∙ failed _ _ (le-ltb _ _ f.structs_fit) ∙ failed _ _ (le-ltb _ _ f.fields_fit))
 
 -- how many numbers the rows have
 pairs-length : (ps : List (ℕ × ℕ)) → length (pairs ps) ≡ 2 * length ps
@@ -116,20 +71,14 @@ fields-length (t ∷ ts) = omega (arith, length-append (pairs t.1) (field_rows t
 
 -- a whole catalogue
 module _ (e : Endianness) (s : List ℕ) (l : Layout) (o : Outcome Dna) (w : Whole e s l o) where
-  abbrev pub its_counts : DnaCounts
-  its_counts = record { names = l.names; types = l.types; structs = l.structs; fields = l.fields }
-
-  counts_are : counts (dna_at e s l) ≡ its_counts
+  counts_are : counts (dna_at e s l) ≡ counts_of l
   counts_are =
       ap (λ (n : ℕ). record { names = n; types = length (dna_at e s l).types; structs = length (dna_at e s l).structs; fields = field_count (dna_at e s l).structs }) w.names_are
-      ∙ ap (λ (n : ℕ). record { names = l.names; types = n; structs = length (dna_at e s l).structs; fields = field_count (dna_at e s l).structs }) w.types_are
-      ∙ ap (λ (n : ℕ). record { names = l.names; types = l.types; structs = n; fields = field_count (dna_at e s l).structs }) w.structs_are
-      ∙ ap (λ (n : ℕ). record { names = l.names; types = l.types; structs = l.structs; fields = n }) w.fields_are
+      ∙ ap (λ (n : ℕ). record { names = l.names.count; types = n; structs = length (dna_at e s l).structs; fields = field_count (dna_at e s l).structs }) w.types_are
+      ∙ ap (λ (n : ℕ). record { names = l.names.count; types = l.types.count; structs = n; fields = field_count (dna_at e s l).structs }) w.structs_are
+      ∙ ap (λ (n : ℕ). record { names = l.names.count; types = l.types.count; structs = l.structs.count; fields = n }) w.fields_are
 
-  pub counted_so : read its_counts l.end ≡ counts_only o
-  counted_so = sym (ap counts_only w.found ∙ ap (λ (n : DnaCounts). read n l.end) counts_are)
-
-  pub answered_so : (r : Rooms) → answer_for its_counts r ≡ read_as o r
+  pub answered_so : (r : Rooms) → answer_for (counts_of l) r ≡ read_as o r
   unfolding read_as
   answered_so r = sym (ap (λ (q : Outcome Dna). read_as q r) w.found ∙ ap (λ (n : DnaCounts). answer_for n r) counts_are)
 
@@ -143,23 +92,23 @@ module _ (e : Endianness) (s : List ℕ) (l : Layout) (o : Outcome Dna) (w : Who
         p ∙ put-over t (f (dna_at e s l)) h ∙ accepted-written (read_as o r) 0 vs (f (dna_at e s l)) t a ∙ ap (λ (rows : List ℕ). written (read_as o r) rows t) (sym rows_are)
 
   -- each table has room for its rows
-  module _ (a b c d : ℕ) (f : AllFit its_counts (rooms a b c d)) where
+  module _ (a b c d : ℕ) (f : AllFit (counts_of l) (rooms a b c d)) where
     pub names-room : length (pairs (dna_at e s l).names) ≤ a
-    names-room = omega (arith, f.names-fit, pairs-length (dna_at e s l).names, w.names_are)
+    names-room = omega (arith, f.names_fit, pairs-length (dna_at e s l).names, w.names_are)
 
     pub types-room : length (type_rows (dna_at e s l).types (dna_at e s l).sizes) ≤ b
-    types-room = omega (arith, f.types-fit, types-length (dna_at e s l).types (dna_at e s l).sizes (w.sizes_are ∙ sym w.types_are), w.types_are)
+    types-room = omega (arith, f.types_fit, types-length (dna_at e s l).types (dna_at e s l).sizes (w.sizes_are ∙ sym w.types_are), w.types_are)
 
     pub structs-room : length (struct_rows 0 (dna_at e s l).structs) ≤ c
-    structs-room = omega (arith, f.structs-fit, structs-length 0 (dna_at e s l).structs, w.structs_are)
+    structs-room = omega (arith, f.structs_fit, structs-length 0 (dna_at e s l).structs, w.structs_are)
 
     pub fields-room : length (field_rows (dna_at e s l).structs) ≤ d
     fields-room = omega (arith, f.fields_fit, fields-length (dna_at e s l).structs, w.fields_are)
 
 -- a reading that does not come to an end, or finds a table too short, keeps every table
-pub refused_so : (o : Outcome Dna) (r : DnaTables) (k : ℕ) (vs names types structs fields : List ℕ) → paper_tables r ≡ refuses k vs
-    → paper_tables r ≡ read_as o (rooms (length names) (length types) (length structs) (length fields)) → Filled o r names types structs fields names types structs fields
-refused_so o r k vs names types structs fields p a =
+pub refused_so : (o : Outcome Dna) (x : DnaError) (k : ℕ) (vs names types structs fields : List ℕ) → paper_error x ≡ refuses k vs
+    → paper_error x ≡ read_as o (rooms (length names) (length types) (length structs) (length fields)) → Filled o (Err x) names types structs fields names types structs fields
+refused_so o x k vs names types structs fields p a =
     let q = sym p ∙ a in
     record {
       answer = a;
@@ -169,20 +118,25 @@ refused_so o r k vs names types structs fields p a =
       in_fields = refused-kept _ k vs _ fields q;
     }
 
-pub stopped_so : (o : Outcome Dna) (x : Fault) (names types structs fields : List ℕ) → o ≡ fault x → Filled o (DnaTables.Refused x) names types structs fields names types structs fields
+pub kept_so : (o : Outcome Dna) (x : DnaError) (names types structs fields : List ℕ) → paper_error x ≡ read_as o (rooms (length names) (length types) (length structs) (length fields))
+    → Filled o (Err x) names types structs fields names types structs fields
+kept_so o (DnaError.Fault f) names types structs fields a = refused_so o (DnaError.Fault f) _ _ names types structs fields refl a
+kept_so o (DnaError.TableTooShort which rows) names types structs fields a = refused_so o (DnaError.TableTooShort which rows) _ _ names types structs fields refl a
+
+pub stopped_so : (o : Outcome Dna) (x : Fault) (names types structs fields : List ℕ) → o ≡ fault x → Filled o (Err (DnaError.Fault x)) names types structs fields names types structs fields
 unfolding read_as
 stopped_so o x names types structs fields h =
-    refused_so o (DnaTables.Refused x) _ _ names types structs fields refl (sym (ap (λ (q : Outcome Dna). read_as q (rooms (length names) (length types) (length structs) (length fields))) h))
+    kept_so o (DnaError.Fault x) names types structs fields (sym (ap (λ (q : Outcome Dna). read_as q (rooms (length names) (length types) (length structs) (length fields))) h))
 
 -- one that finds room for all fills every table
 module _ (e : Endianness) (s : List ℕ) (l : Layout) (o : Outcome Dna) (w : Whole e s l o) (names types structs fields names' types' structs' fields' : List ℕ)
-    (f : AllFit (its_counts e s l o w) (rooms (length names) (length types) (length structs) (length fields))) where
+    (f : AllFit (counts_of l) (rooms (length names) (length types) (length structs) (length fields))) where
   pub filled_so : names' ≡ put names 0 (pairs (dna_at e s l).names) → types' ≡ put types 0 (type_rows (dna_at e s l).types (dna_at e s l).sizes)
       → structs' ≡ put structs 0 (struct_rows 0 (dna_at e s l).structs) → fields' ≡ put fields 0 (field_rows (dna_at e s l).structs)
-      → Filled o (DnaTables.Are (its_counts e s l o w)) names types structs fields names' types' structs' fields'
+      → Filled o (Ok (counts_of l)) names types structs fields names' types' structs' fields'
   filled_so a b c d =
       let r = rooms (length names) (length types) (length structs) (length fields) in
-      let q = none-short (its_counts e s l o w) r f.names-fit f.types-fit f.structs-fit f.fields_fit ∙ answered_so e s l o w r in
+      let q = none-short (counts_of l) r f ∙ answered_so e s l o w r in
       record {
         answer = q;
         in_names = table_filled e s l o w (λ x. pairs x.names) r _ names names' q (names-room e s l o w _ _ _ _ f) a;

@@ -1,6 +1,6 @@
 -- The pass that counts: one turn of each of its loops, and how the sections of the tree go together.
 use Prim.Native.Nat.{ℕ, zero, suc, ◌+◌, ◌*◌, ◌-◌, ◌<◌, ◌≤◌}
-use mathlib.Core.List.{List, []}
+use mathlib.Core.List.{List, [], ◌∷◌}
 use mathlib.Core.Path.{◌≡◌, refl, sym, ◌∙◌, ap}
 use native.Mathlib.Nat.{mul-suc}
 use native.Mathlib.Omega.{arith}
@@ -14,7 +14,7 @@ use Rattle.octets.specs.Reader.{Reader, Outcome, run, string, then, times}
 use Rattle.octets.specs.Reader.Reader.{done, skip}
 use Rattle.octets.specs.Reader.Outcome.{read, fault}
 use Rattle.octets.proofs.Extent.{ends-after}
-use Rattle.octets.proofs.Times.{joined, one_more, none_yet, found-list, past-none, past_more, times-stops, past-read, past-fault, goes_on, stops}
+use Rattle.octets.proofs.Times.{joined, one_more, none_yet, found-list, past-none, past_more, times-stops, past-read, past-fault, leading_more, goes_on, stops}
 use Rattle.octets.proofs.Onward.{until-on, until-stops, skip-on, skip-stops, number-on, number-stops, number_moves, tag-on, tag-stops}
 use Rattle.dna.specs.Catalogue.{Struct, text, padding, strings, listed, size, sized, field, struct, structured, field_count}
 use Rattle.dna.specs.Passes.{headed, totalled}
@@ -29,22 +29,28 @@ module _ (s : List ℕ) (at : ℕ) where
   unfolding run
   place-stops x h = until-stops s at 0 (λ k. done (at, k)) x h
 
--- a loop over the same tree, with its turns counted down
-module _ {A : Type 0} (r : Reader A) (s : List ℕ) (left at : ℕ) where
-  pub turn : 0 < left → (a : A) (next : ℕ) → run r s at ≡ read a next → past (run (times left r) s at) ≡ past (run (times (left - 1) r) s next)
+-- the i-th of n turns of a loop over the same tree, and the end
+module _ {A : Type 0} (r : Reader A) (s : List ℕ) (n i at : ℕ) where
+  pub turn : i < n → (a : A) (next : ℕ) → run r s at ≡ read a next → past (run (times (n - i) r) s at) ≡ past (run (times (n - (i + 1)) r) s next)
   turn h a next e =
-      let k : suc (left - 1) ≡ left = omega arith in
-      rw k at (past_more r s (left - 1) at a next e)
+      let k : suc (n - (i + 1)) ≡ n - i = omega arith in
+      rw k at (past_more r s (n - (i + 1)) at a next e)
 
-  pub turn-stops : 0 < left → (x : Fault) → run r s at ≡ fault x → fault x ≡ past (run (times left r) s at)
+  pub turn-stops : i < n → (x : Fault) → run r s at ≡ fault x → fault x ≡ past (run (times (n - i) r) s at)
   turn-stops h x e =
-      let k : suc (left - 1) ≡ left = omega arith in
-      sym (ap past (rw k at (times-stops r s (left - 1) at x e)))
+      let k : suc (n - (i + 1)) ≡ n - i = omega arith in
+      sym (ap past (rw k at (times-stops r s (n - (i + 1)) at x e)))
 
-  pub turn_last : left ≤ 0 → read tt at ≡ past (run (times left r) s at)
+  pub turn_last : n ≤ i → read tt at ≡ past (run (times (n - i) r) s at)
   turn_last h =
-      let k : left ≡ 0 = omega arith in
+      let k : n - i ≡ 0 = omega arith in
       rw k (past-none r s at)
+
+  -- what it finds, from the front
+  pub leading_next : i < n → (a : A) (next : ℕ) → run r s at ≡ read a next → leading (n - i) r s at ≡ a ∷ leading (n - (i + 1)) r s next
+  leading_next h a next e =
+      let k : n - i - 1 ≡ n - (i + 1) = omega arith in
+      rw k at (leading_more r s (n - i) at (omega arith) a next e)
 
 -- what n turns of a tree came to, where they came to an end
 module _ {A : Type 0} (r : Reader A) (s : List ℕ) (n at end : ℕ) (h : read tt end ≡ past (run (times n r) s at)) where
@@ -169,9 +175,14 @@ module _ (e : Endianness) (m s : List ℕ) (at : ℕ) where
   unfolding listed
   listed-stops x h = tag-stops s at m (number e 4 strings) x h
 
-  pub listed-on : (next : ℕ) → ◌≡◌ {A = Outcome (Unit {0})} (read tt next) (run (tag m (done tt)) s at) → run (listed e m) s at ≡ run (number e 4 strings) s next
-  unfolding listed
-  listed-on next h = tag-on s at m (number e 4 strings) next h
+  module _ (next : ℕ) (h : ◌≡◌ {A = Outcome (Unit {0})} (read tt next) (run (tag m (done tt)) s at)) where
+    pub no-count : (x : Fault) → fault x ≡ run (number e 4 done) s next → run (listed e m) s at ≡ fault x
+    unfolding listed
+    no-count x k = tag-on s at m (number e 4 strings) next h ∙ number-stops s next e 4 strings x k
+
+    pub listed-on : (n from : ℕ) → read n from ≡ run (number e 4 done) s next → run (listed e m) s at ≡ run (strings n) s from
+    unfolding listed
+    listed-on n from k = tag-on s at m (number e 4 strings) next h ∙ number-on s next e 4 strings n from k
 
 -- where a field record and a struct's fields end
 pub field_moves : (e : Endianness) (s : List ℕ) (at : ℕ) (f : ℕ × ℕ) (next : ℕ) → run (field e) s at ≡ read f next → next ≡ at + 4
@@ -233,14 +244,14 @@ struct_fields e s at u end h = one (run (number e 2 done) s at) refl
         cc
 
 -- one turn of the loop over the structs
-module _ (e : Endianness) (s : List ℕ) (left at k : ℕ) where
-  pub total_more : 0 < left → (t n next : ℕ) → headed (run (struct e) s at) ≡ read (t, n) next
-      → totalled k (run (times left (struct e)) s at) ≡ totalled (k + n) (run (times (left - 1) (struct e)) s next)
+module _ (e : Endianness) (s : List ℕ) (m i at k : ℕ) where
+  pub total_more : i < m → (t n next : ℕ) → headed (run (struct e) s at) ≡ read (t, n) next
+      → totalled k (run (times (m - i) (struct e)) s at) ≡ totalled (k + n) (run (times (m - (i + 1)) (struct e)) s next)
   unfolding field_count
   total_more h t n next g =
       let w = headed-read (run (struct e) s at) t n next g in
-      let q : suc (left - 1) ≡ left = omega arith in
-      ap (totalled k) (rw q at (one_more (struct e) s (left - 1) at w.0 next w.1)) ∙ by w.0 w.3 (run (times (left - 1) (struct e)) s next)
+      let q : suc (m - (i + 1)) ≡ m - i = omega arith in
+      ap (totalled k) (rw q at (one_more (struct e) s (m - (i + 1)) at w.0 next w.1)) ∙ by w.0 w.3 (run (times (m - (i + 1)) (struct e)) s next)
     where
       by : (u : Struct) → length u.1 ≡ n → (o : Outcome (List Struct)) → totalled k (joined (struct e) s u o) ≡ totalled (k + n) o
       by u z (read ts end) =
@@ -248,15 +259,15 @@ module _ (e : Endianness) (s : List ℕ) (left at k : ℕ) where
           rw a
       by u z (fault x) = refl
 
-  pub total_stops : 0 < left → (x : Fault) → run (struct e) s at ≡ fault x → fault x ≡ totalled k (run (times left (struct e)) s at)
+  pub total_stops : i < m → (x : Fault) → run (struct e) s at ≡ fault x → fault x ≡ totalled k (run (times (m - i) (struct e)) s at)
   total_stops h x g =
-      let q : suc (left - 1) ≡ left = omega arith in
-      sym (ap (totalled k) (rw q at (times-stops (struct e) s (left - 1) at x g)))
+      let q : suc (m - (i + 1)) ≡ m - i = omega arith in
+      sym (ap (totalled k) (rw q at (times-stops (struct e) s (m - (i + 1)) at x g)))
 
-  pub total_last : left ≤ 0 → read k at ≡ totalled k (run (times left (struct e)) s at)
+  pub total_last : m ≤ i → read k at ≡ totalled k (run (times (m - i) (struct e)) s at)
   unfolding field_count
   total_last h =
-      let q : left ≡ 0 = omega arith in
+      let q : m - i ≡ 0 = omega arith in
       let z : k + 0 ≡ k = omega arith in
       rw (q, none_yet (struct e) s at, z)
 

@@ -3,6 +3,7 @@ use Prim.Native.Nat.{ℕ}
 use mathlib.Core.List.{List}
 use lib.ListN.{length}
 use Rattle.octets.specs.declared.Endianness.{Endianness}
+use Rattle.octets.specs.declared.Refusal.{Refusal}
 use Rattle.octets.specs.Ascii.{ascii}
 use Rattle.octets.specs.Number.{spelled}
 use Rattle.octets.specs.Reader.{times}
@@ -10,7 +11,7 @@ use Rattle.octets.specs.Reader.Reader.{done}
 use Rattle.octets.proofs.Refusing.{Gives, gives_then, gives-times, gives-tag}
 use Rattle.dna.specs.Catalogue.{text, strings, listed, size, sized, field, struct, structured, catalogue}
 
-module _ (P : ℕ → Type 0) (e : Endianness) where
+module _ (P : Refusal → Type 0) (e : Endianness) where
   strings_give : (n : ℕ) → Gives P (strings n)
   unfolding strings
   strings_give n = λ from. gives_then P (times n text) _ (gives-times P n text (λ at m. tt)) (λ ps to. tt)

@@ -1,5 +1,5 @@
 -- Numbers of two bytes, one after another: how far n of them reach, or where the first is that is not there. None of them is looked at.
-use Prim.Native.Nat.{ℕ, zero, suc, ◌+◌, ◌*◌, ◌/◌, ◌≤◌, ◌<◌}
+use Prim.Native.Nat.{ℕ, zero, suc, ◌+◌, ◌-◌, ◌*◌, ◌≤◌, ◌<◌}
 use mathlib.Core.Bool.{Bool, true, false}
 use mathlib.Core.List.{List}
 use mathlib.Core.Path.{◌≡◌, refl, sym, ◌∙◌, ap}
@@ -7,7 +7,13 @@ use native.Mathlib.Nat.{mul-suc}
 use native.Mathlib.Omega.{arith}
 use borrow.Author.Tests.{leb-true, leb-false, le-leb, lt-leb}
 use lib.Dec.{leb}
-use lib.ListN.{length}
+use lib.ListN.{length, take, drop}
+use Rattle.std.specs.Prelude.{Result, Ok, Err}
+use Rattle.std.specs.Result.{IsOk}
+use Rattle.octets.specs.declared.Refusal.{Refusal}
+use Rattle.octets.specs.Refusals.{paper_answer}
+use Rattle.primitive.specs.Primitive.{value_of, unsigned}
+use Rattle.primitive.proofs.Values.{value-is, value_lacks}
 use Rattle.octets.proofs.Going.{number-within}
 use Rattle.octets.specs.declared.Endianness.{Endianness}
 use Rattle.octets.specs.declared.Fault.TheVariants.{Cut}
@@ -21,32 +27,28 @@ use Rattle.octets.proofs.Reading.{onwards, number-there}
 use Rattle.octets.proofs.Tests.{held, failed}
 use Rattle.octets.proofs.Times.{past-none, past_more, times-stops}
 use Rattle.dna.specs.Catalogue.{size, field}
-use Rattle.dna.specs.Passes.{shorts_from}
+use Rattle.dna.specs.Passes.{shorts_from, shorts_past}
 use Rattle.dna.proofs.Counting.{field-stops, field-stops_later, field-read, field_moves, all_move}
 
 abbrev Reached : Type 0
 Reached = Outcome (Unit {0})
-
--- past n of them from a text on
-abbrev reach : List ℕ → ℕ → ℕ → Reached
-reach s n at = elim (leb n (shorts_from s at)) [ true ↦ read tt (at + 2 * n) | false ↦ fault (Cut (at + 2 * shorts_from s at)) ]
 
 -- and what comes after them, from where they end
 abbrev further : Reached → (ℕ → Reached) → Reached
 further o f = onwards o (λ u next. f next)
 
 module _ (s : List ℕ) where
-  there : (n at : ℕ) → n ≤ shorts_from s at → reach s n at ≡ read tt (at + 2 * n)
+  there : (n at : ℕ) → n ≤ shorts_from s at → shorts_past s n at ≡ read tt (at + 2 * n)
   there n at h = held _ _ (le-leb _ _ h)
 
-  cut : (n at : ℕ) → shorts_from s at < n → reach s n at ≡ fault (Cut (at + 2 * shorts_from s at))
+  cut : (n at : ℕ) → shorts_from s at < n → shorts_past s n at ≡ fault (Cut (at + 2 * shorts_from s at))
   cut n at h = failed _ _ (lt-leb _ _ h)
 
   -- some, and then some more
-  reach-on : (k m at : ℕ) → reach s (k + m) at ≡ further (reach s k at) (reach s m)
+  reach-on : (k m at : ℕ) → shorts_past s (k + m) at ≡ further (shorts_past s k at) (shorts_past s m)
   reach-on k m at = go (leb k (shorts_from s at)) refl
     where
-      more : (b : Bool) → leb m (shorts_from s (at + 2 * k)) ≡ b → k ≤ shorts_from s at → reach s (k + m) at ≡ reach s m (at + 2 * k)
+      more : (b : Bool) → leb m (shorts_from s (at + 2 * k)) ≡ b → k ≤ shorts_from s at → shorts_past s (k + m) at ≡ shorts_past s m (at + 2 * k)
       more true t h =
           let u : m ≤ shorts_from s (at + 2 * k) = leb-true _ _ t in
           let n : k + m ≤ shorts_from s at = omega arith in
@@ -58,39 +60,39 @@ module _ (s : List ℕ) where
           let p : at + 2 * shorts_from s at ≡ at + 2 * k + 2 * shorts_from s (at + 2 * k) = omega arith in
           cut (k + m) at n ∙ ap (λ (q : ℕ). fault (Cut q)) p ∙ sym (cut m (at + 2 * k) u)
 
-      go : (b : Bool) → leb k (shorts_from s at) ≡ b → reach s (k + m) at ≡ further (reach s k at) (reach s m)
+      go : (b : Bool) → leb k (shorts_from s at) ≡ b → shorts_past s (k + m) at ≡ further (shorts_past s k at) (shorts_past s m)
       go true t =
           let h : k ≤ shorts_from s at = leb-true _ _ t in
-          more (leb m (shorts_from s (at + 2 * k))) refl h ∙ sym (ap (λ (o : Reached). further o (reach s m)) (there k at h))
+          more (leb m (shorts_from s (at + 2 * k))) refl h ∙ sym (ap (λ (o : Reached). further o (shorts_past s m)) (there k at h))
       go false t =
           let h : shorts_from s at < k = leb-false _ _ t in
-          cut (k + m) at (omega arith) ∙ sym (ap (λ (o : Reached). further o (reach s m)) (cut k at h))
+          cut (k + m) at (omega arith) ∙ sym (ap (λ (o : Reached). further o (shorts_past s m)) (cut k at h))
 
   -- a tree that is k of them, n times
-  module _ {A : Type 0} (r : Reader A) (k : ℕ) (each : (at : ℕ) → past (run r s at) ≡ reach s k at) where
-    times-reach : (n at : ℕ) → past (run (times n r) s at) ≡ reach s (k * n) at
+  module _ {A : Type 0} (r : Reader A) (k : ℕ) (each : (at : ℕ) → past (run r s at) ≡ shorts_past s k at) where
+    times-reach : (n at : ℕ) → past (run (times n r) s at) ≡ shorts_past s (k * n) at
     times-reach zero at =
         let z : k * 0 ≡ 0 = omega arith in
         let p : at + 2 * 0 ≡ at = omega arith in
         sym (past-none r s at) ∙ sym (rw z (there 0 at (omega arith) ∙ ap (λ (q : ℕ). read tt q) p))
     times-reach (suc n) at = go (run r s at) refl (times-reach n)
       where
-        split : reach s (k * suc n) at ≡ further (reach s k at) (reach s (k * n))
+        split : shorts_past s (k * suc n) at ≡ further (shorts_past s k at) (shorts_past s (k * n))
         split =
             let q : k * suc n ≡ k + k * n = omega (arith, mul-suc k n) in
-            ap (λ (j : ℕ). reach s j at) q ∙ reach-on k (k * n) at
+            ap (λ (j : ℕ). shorts_past s j at) q ∙ reach-on k (k * n) at
 
-        go : (o : Outcome A) → run r s at ≡ o → ((from : ℕ) → past (run (times n r) s from) ≡ reach s (k * n) from)
-            → past (run (times (suc n) r) s at) ≡ reach s (k * suc n) at
-        go (read a next) t f = past_more r s n at a next t ∙ f next ∙ sym (split ∙ ap (λ (o : Reached). further o (reach s (k * n))) (sym (each at) ∙ ap past t))
-        go (fault x) t f = ap past (times-stops r s n at x t) ∙ sym (split ∙ ap (λ (o : Reached). further o (reach s (k * n))) (sym (each at) ∙ ap past t))
+        go : (o : Outcome A) → run r s at ≡ o → ((from : ℕ) → past (run (times n r) s from) ≡ shorts_past s (k * n) from)
+            → past (run (times (suc n) r) s at) ≡ shorts_past s (k * suc n) at
+        go (read a next) t f = past_more r s n at a next t ∙ f next ∙ sym (split ∙ ap (λ (o : Reached). further o (shorts_past s (k * n))) (sym (each at) ∙ ap past t))
+        go (fault x) t f = ap past (times-stops r s n at x t) ∙ sym (split ∙ ap (λ (o : Reached). further o (shorts_past s (k * n))) (sym (each at) ∙ ap past t))
 
   module _ (e : Endianness) where
-    size-reach : (at : ℕ) → past (run (size e) s at) ≡ reach s 1 at
+    size-reach : (at : ℕ) → past (run (size e) s at) ≡ shorts_past s 1 at
     unfolding run
     size-reach at = go (room s at 2) refl
       where
-        go : (b : Bool) → room s at 2 ≡ b → past (run (size e) s at) ≡ reach s 1 at
+        go : (b : Bool) → room s at 2 ≡ b → past (run (size e) s at) ≡ shorts_past s 1 at
         go true t =
             let h : at + 2 ≤ length s = leb-true _ _ t in
             rw (past, t) (sym (there 1 at (omega arith)))
@@ -100,43 +102,30 @@ module _ (s : List ℕ) where
             let p : at + 2 * shorts_from s at ≡ at = omega arith in
             rw (past, t) (sym (cut 1 at (omega arith) ∙ ap (λ (q : ℕ). fault (Cut q)) p))
 
-    field-reach : (at : ℕ) → past (run (field e) s at) ≡ reach s 2 at
+    field-reach : (at : ℕ) → past (run (field e) s at) ≡ shorts_past s 2 at
     field-reach at = one (run (number e 2 done) s at) refl
       where
-        two : (t mid : ℕ) → run (number e 2 done) s at ≡ read t mid → (o : Outcome ℕ) → run (number e 2 done) s mid ≡ o → past (run (field e) s at) ≡ reach s 1 mid
+        two : (t mid : ℕ) → run (number e 2 done) s at ≡ read t mid → (o : Outcome ℕ) → run (number e 2 done) s mid ≡ o → past (run (field e) s at) ≡ shorts_past s 1 mid
         two t mid k (read n last) g = ap past (sym (field-read e s at t mid (sym k) n last (sym g))) ∙ sym (ap past g) ∙ size-reach mid
         two t mid k (fault x) g = ap past (sym (field-stops_later e s at t mid (sym k) x (sym g))) ∙ sym (ap past g) ∙ size-reach mid
 
-        one : (o : Outcome ℕ) → run (number e 2 done) s at ≡ o → past (run (field e) s at) ≡ reach s 2 at
+        one : (o : Outcome ℕ) → run (number e 2 done) s at ≡ o → past (run (field e) s at) ≡ shorts_past s 2 at
         one (read t mid) k =
-            two t mid k (run (number e 2 done) s mid) refl ∙ sym (reach-on 1 1 at ∙ ap (λ (o : Reached). further o (reach s 1)) (sym (size-reach at) ∙ ap past k))
-        one (fault x) k = ap past (sym (field-stops e s at x (sym k))) ∙ sym (reach-on 1 1 at ∙ ap (λ (o : Reached). further o (reach s 1)) (sym (size-reach at) ∙ ap past k))
+            two t mid k (run (number e 2 done) s mid) refl ∙ sym (reach-on 1 1 at ∙ ap (λ (o : Reached). further o (shorts_past s 1)) (sym (size-reach at) ∙ ap past k))
+        one (fault x) k = ap past (sym (field-stops e s at x (sym k))) ∙ sym (reach-on 1 1 at ∙ ap (λ (o : Reached). further o (shorts_past s 1)) (sym (size-reach at) ∙ ap past k))
 
-    module _ (n at : ℕ) where
-      sizes-reach : past (run (times n (size e)) s at) ≡ reach s n at
-      sizes-reach =
-          let q : 1 * n ≡ n = omega arith in
-          times-reach (size e) 1 size-reach n at ∙ ap (λ (j : ℕ). reach s j at) q
+    -- as `records_past` answers
+    pub sizes-reach : (n at : ℕ) → shorts_past s (1 * n) at ≡ past (run (times n (size e)) s at)
+    sizes-reach n at = sym (times-reach (size e) 1 size-reach n at)
 
-      pub sizes-there : n ≤ shorts_from s at → read tt (at + 2 * n) ≡ past (run (times n (size e)) s at)
-      sizes-there h = sym (sizes-reach ∙ there n at h)
-
-      pub sizes-cut : shorts_from s at < n → fault (Cut (at + 2 * shorts_from s at)) ≡ past (run (times n (size e)) s at)
-      sizes-cut h = sym (sizes-reach ∙ cut n at h)
-
-      pub fields-there : n ≤ shorts_from s at / 2 → read tt (at + 4 * n) ≡ past (run (times n (field e)) s at)
-      fields-there h =
-          let p : at + 2 * (2 * n) ≡ at + 4 * n = omega arith in
-          sym (times-reach (field e) 2 field-reach n at ∙ there (2 * n) at (omega arith) ∙ ap (λ (q : ℕ). read tt q) p)
-
-      pub fields-cut : shorts_from s at / 2 < n → fault (Cut (at + 2 * shorts_from s at)) ≡ past (run (times n (field e)) s at)
-      fields-cut h = sym (times-reach (field e) 2 field-reach n at ∙ cut (2 * n) at (omega arith))
+    pub fields-reach : (n at : ℕ) → shorts_past s (2 * n) at ≡ past (run (times n (field e)) s at)
+    fields-reach n at = sym (times-reach (field e) 2 field-reach n at)
 
 -- what was read is there
 fields_within : (s : List ℕ) (e : Endianness) (n from last : ℕ) → read tt last ≡ past (run (times n (field e)) s from) → from ≤ length s → last ≤ length s
 fields_within s e n from last g h = go (leb (2 * n) (shorts_from s from)) refl (g ∙ times-reach s (field e) 2 (field-reach s e) n from)
   where
-    go : (b : Bool) → leb (2 * n) (shorts_from s from) ≡ b → read tt last ≡ reach s (2 * n) from → last ≤ length s
+    go : (b : Bool) → leb (2 * n) (shorts_from s from) ≡ b → read tt last ≡ shorts_past s (2 * n) from → last ≤ length s
     go true t k =
         let u : 2 * n ≤ shorts_from s from = leb-true _ _ t in
         let q : ◌≡◌ {A = Reached} (read tt last) (read tt (from + 2 * (2 * n))) = k ∙ held _ _ t in
@@ -163,3 +152,12 @@ pub field_there : (e : Endianness) (s : List ℕ) (at : ℕ) → at + 4 ≤ leng
 field_there e s at h t n p q =
     rw (p, q)
     (sym (field-read e s at _ (at + 2) (number-there e 2 s at (at + 2) refl (omega arith)) _ (at + 4) (number-there e 2 s (at + 2) (at + 4) (omega arith) h)))
+
+-- a number of two bytes that is there: it is read, and it is the one that they spell
+module _ (e : Endianness) (s : List ℕ) (at : ℕ) (h : at + 2 ≤ length s) where
+  pub short-there : (r : Result ℕ Refusal) → paper_answer unsigned r ≡ value_of 2 unsigned e (take (at + 2 - at) (drop at s)) → IsOk r
+  short-there (Ok n) p = refl
+  short-there (Err x) p = value_lacks 2 e s at h _ p
+
+  pub short-is : (r : Result ℕ Refusal) → paper_answer unsigned r ≡ value_of 2 unsigned e (take (at + 2 - at) (drop at s)) → (n : ℕ) → r ≡ Ok n → n ≡ number_at e 2 s at
+  short-is r p n q = value-is 2 e s at h n (ap (paper_answer unsigned) (sym q) ∙ p)

@@ -1,7 +1,8 @@
 -- Catalogue (SDNA): one reading tree over the payload, and the rows of its tables. Padding has to be there and is not looked at; bytes after the last
 -- struct are not read at all.
-use Rattle.std.specs.Prelude.{ℕ, ◌+◌, ◌*◌, ◌-◌, ◌/◌, ◌%◌, true, false, List, [], ◌∷◌, ◌++◌, ◌≡◌, ltb, length}
+use Rattle.std.specs.Prelude.{ℕ, ◌+◌, ◌*◌, ◌-◌, ◌/◌, ◌%◌, true, false, List, [], ◌∷◌, ◌++◌, ◌≡◌, ltb, length, Result, Ok, Err}
 use Rattle.octets.specs.declared.Endianness.{Endianness}
+use Rattle.octets.specs.declared.Fault.{Fault}
 use Rattle.octets.specs.Ascii.{ascii}
 use Rattle.octets.specs.Number.{number, tag}
 use Rattle.octets.specs.Paper.{Paper}
@@ -12,8 +13,9 @@ use Rattle.octets.specs.Reader.Outcome.{read, fault}
 use Rattle.octets.specs.Refusals.{catalogue_table_too_short, paper_fault, told}
 use Rattle.octets.specs.Tables.{written}
 use Rattle.dna.specs.declared.dna.DnaCounts.{DnaCounts}
-use Rattle.dna.specs.declared.dna.DnaCounted.{DnaCounted}
-use Rattle.dna.specs.declared.dna.DnaTables.{DnaTables}
+use Rattle.dna.specs.declared.dna.DnaError.{DnaError}
+use Rattle.dna.specs.declared.dna.DnaTable.{DnaTable}
+use Rattle.dna.specs.declared.dna.DnaTable.TheVariants.{Names, Types, Structs, Fields}
 
 -- a string's text: its offset in the payload, and its length
 abbrev pub Text : Type 0
@@ -161,14 +163,24 @@ structs_table o r t = written (read_as o r) (rows_of (λ d. struct_rows 0 d.stru
 abbrev pub fields_table : Outcome Dna → Rooms → List ℕ → List ℕ
 fields_table o r t = written (read_as o r) (rows_of (λ d. field_rows d.structs) o) t
 
--- the paper of the answer: 0 is the one that is no refusal
-abbrev pub paper_tables : DnaTables → Paper
-paper_tables (DnaTables.Are n) = accepts 0 (count_numbers n)
-paper_tables (DnaTables.Refused f) = paper_fault f
-paper_tables (DnaTables.TableTooShort which rows) = catalogue_table_too_short which rows
+-- the number of a table, as refusal 8 carries it
+abbrev pub table_number : DnaTable → ℕ
+table_number Names = 1
+table_number Types = 2
+table_number Structs = 3
+table_number Fields = 4
+
+-- the paper of a refusal, and of the answer: 0 is the one that is no refusal
+abbrev pub paper_error : DnaError → Paper
+paper_error (DnaError.Fault f) = paper_fault f
+paper_error (DnaError.TableTooShort which rows) = catalogue_table_too_short (table_number which) rows
+
+abbrev pub paper_tables : Result DnaCounts DnaError → Paper
+paper_tables (Ok n) = accepts 0 (count_numbers n)
+paper_tables (Err e) = paper_error e
 
 -- What `dna` promises of a payload's reading o: the answer r on paper, and the four tables afterwards, from what they held before.
-pub record Filled (o : Outcome Dna) (r : DnaTables) (names types structs fields names' types' structs' fields' : List ℕ) : Type 0 where
+pub record Filled (o : Outcome Dna) (r : Result DnaCounts DnaError) (names types structs fields names' types' structs' fields' : List ℕ) : Type 0 where
   pub answer : paper_tables r ≡ read_as o (rooms (length names) (length types) (length structs) (length fields))
   pub in_names : names' ≡ names_table o (rooms (length names) (length types) (length structs) (length fields)) names
   pub in_types : types' ≡ types_table o (rooms (length names) (length types) (length structs) (length fields)) types
@@ -180,10 +192,10 @@ abbrev pub counts_only : Outcome Dna → Outcome DnaCounts
 counts_only (read d next) = read (counts d) next
 counts_only (fault f) = fault f
 
-abbrev pub outcome_of : DnaCounted → Outcome DnaCounts
-outcome_of (DnaCounted.Are n next) = read n next
-outcome_of (DnaCounted.Stopped f) = fault f
+abbrev pub outcome_of : Result (DnaCounts × ℕ) Fault → Outcome DnaCounts
+outcome_of (Ok (n, next)) = read n next
+outcome_of (Err f) = fault f
 
 -- on paper: the four counts and the place, or the fault
-abbrev pub paper_counted : DnaCounted → Paper
+abbrev pub paper_counted : Result (DnaCounts × ℕ) Fault → Paper
 paper_counted r = told count_numbers (outcome_of r)

@@ -1,98 +1,91 @@
 -- What the passes over a catalogue ensure, and how their answers stand to the tree. No rule uses it.
-use Rattle.std.specs.Prelude.{ℕ, ◌+◌, ◌*◌, ◌-◌, ◌/◌, ◌≤◌, List, ◌≡◌, length}
+use Rattle.std.specs.Prelude.{ℕ, ◌+◌, ◌*◌, ◌-◌, ◌/◌, ◌≤◌, true, false, List, ◌≡◌, leb, length, Result, Ok, Err}
 use Rattle.octets.specs.declared.Endianness.{Endianness}
+use Rattle.octets.specs.declared.Fault.{Fault}
+use Rattle.octets.specs.declared.Fault.TheVariants.{Cut}
+use Rattle.octets.specs.declared.cursor.Cursor.{Cursor}
 use Rattle.octets.specs.Helpers.{leading}
-use Rattle.octets.specs.Ascii.{ascii}
-use Rattle.octets.specs.Reader.{Reader, Outcome, then}
-use Rattle.octets.specs.Reader.Reader.{done}
+use Rattle.octets.specs.Reader.{Outcome}
 use Rattle.octets.specs.Reader.Outcome.{read, fault}
-use Rattle.dna.specs.declared.dna.Laid.{Laid}
+use Rattle.dna.specs.declared.dna.DnaCounts.{DnaCounts}
 use Rattle.dna.specs.declared.dna.Layout.{Layout}
-use Rattle.dna.specs.declared.dna.Listed.{Listed}
-use Rattle.dna.specs.declared.dna.OneStruct.{OneStruct}
-use Rattle.dna.specs.declared.dna.Sized.{Sized}
 use Rattle.dna.specs.declared.dna.Span.{Span}
-use Rattle.dna.specs.declared.dna.StructTotal.{StructTotal}
-use Rattle.dna.specs.declared.dna.Structs.{Structs}
-use Rattle.dna.specs.Catalogue.{Text, Struct, Dna, text, listed, size, sized, struct, structured, field_count}
+use Rattle.dna.specs.declared.dna.TypeNumber.{TypeNumber}
+use Rattle.dna.specs.Catalogue.{Text, Struct, Dna, Rooms, text, size, field, struct, field_count}
 
--- a list of strings: how many, where they start, and the place after the padding
-abbrev pub ListedIs : List ℕ → Listed → Outcome (List Text) → Type 0
-ListedIs s (Listed.Are n at next) o = (o ≡ read (leading n text s at) next) × (length (leading n text s at) ≡ n)
-ListedIs s (Listed.Stopped f) o = o ≡ fault f
+-- what stands at a list that was found: texts, structs, and fields; and m sizes from a place on
+abbrev pub texts_of : List ℕ → Span → List Text
+texts_of s p = leading p.count text s p.at
+
+abbrev pub structs_of : Endianness → List ℕ → Span → List Struct
+structs_of e s p = leading p.count (struct e) s p.at
+
+abbrev pub fields_of : Endianness → List ℕ → Span → List (ℕ × ℕ)
+fields_of e s p = leading p.count (field e) s p.at
+
+abbrev pub sizes_of : Endianness → List ℕ → ℕ → ℕ → List ℕ
+sizes_of e s m at = leading m (size e) s at
+
+-- a list of strings: where they stand, and the place after the padding
+abbrev pub ListedIs : List ℕ → Result (Span × Cursor) Fault → Outcome (List Text) → Type 0
+ListedIs s (Ok (p, c)) o = (o ≡ read (texts_of s p) c.at) × (length (texts_of s p) ≡ p.count)
+ListedIs s (Err f) o = o ≡ fault f
 
 -- the sizes of m types: where they start, and the place after the padding
-abbrev pub SizedIs : Endianness → ℕ → List ℕ → Sized → Outcome (List ℕ) → Type 0
-SizedIs e m s (Sized.Are at next) o = (o ≡ read (leading m (size e) s at) next) × (length (leading m (size e) s at) ≡ m)
-SizedIs e m s (Sized.Stopped f) o = o ≡ fault f
+abbrev pub SizedIs : Endianness → ℕ → List ℕ → Result (ℕ × Cursor) Fault → Outcome (List ℕ) → Type 0
+SizedIs e m s (Ok (at, c)) o = (o ≡ read (sizes_of e s m at) c.at) × (length (sizes_of e s m at) ≡ m)
+SizedIs e m s (Err f) o = o ≡ fault f
 
 -- how many numbers of two bytes stand from a place on, one after another
 abbrev pub shorts_from : List ℕ → ℕ → ℕ
 shorts_from s at = (length s - at) / 2
+
+-- past n of them, or where the first stands that is not there
+abbrev pub shorts_past : List ℕ → ℕ → ℕ → Outcome (Unit {0})
+shorts_past s n at = elim (leb n (shorts_from s at)) [ true ↦ read tt (at + 2 * n) | false ↦ fault (Cut (at + 2 * shorts_from s at)) ]
 
 -- a struct without its fields: its type number and how many they are
 abbrev pub headed : Outcome Struct → Outcome (ℕ × ℕ)
 headed (read t next) = read (t.0, length t.1) next
 headed (fault f) = fault f
 
-abbrev pub OneStructIs : List ℕ → ℕ → OneStruct → Outcome Struct → Type 0
-OneStructIs s at (OneStruct.Is t n c) o = (headed o ≡ read (t.0, n) c.at) × (c.at ≡ at + 4 + 4 * n) × (c.at ≤ length s)
-OneStructIs s at (OneStruct.Stopped f) o = o ≡ fault f
+abbrev pub OneStructIs : List ℕ → ℕ → Result (TypeNumber × ℕ × Cursor) Fault → Outcome Struct → Type 0
+OneStructIs s at (Ok (t, n, c)) o = (headed o ≡ read (t.0, n) c.at) × (c.at ≡ at + 4 + 4 * n) × (c.at ≤ length s)
+OneStructIs s at (Err f) o = o ≡ fault f
 
 -- all structs after some that had k fields: how many they have together
 abbrev pub totalled : ℕ → Outcome (List Struct) → Outcome ℕ
 totalled k (read ts next) = read (k + field_count ts) next
 totalled k (fault f) = fault f
 
-abbrev pub struct_total : StructTotal → Outcome ℕ
-struct_total (StructTotal.Are n c) = read n c.at
-struct_total (StructTotal.Stopped f) = fault f
+-- the structs: where they stand, how many fields they have together, and the place after them
+abbrev pub StructsAre : Endianness → List ℕ → Result (Span × ℕ × Cursor) Fault → Outcome (List Struct) → Type 0
+StructsAre e s (Ok (p, fields, c)) o = (o ≡ read (structs_of e s p) c.at) × (length (structs_of e s p) ≡ p.count) × (field_count (structs_of e s p) ≡ fields)
+StructsAre e s (Err f) o = o ≡ fault f
 
--- the structs: how many, how many fields they have together, where they start, and the place after them
-abbrev pub StructsAre : Endianness → List ℕ → Structs → Outcome (List Struct) → Type 0
-StructsAre e s (Structs.Are n fields at next) o =
-    (o ≡ read (leading n (struct e) s at) next) × (length (leading n (struct e) s at) ≡ n) × (field_count (leading n (struct e) s at) ≡ fields)
-StructsAre e s (Structs.Stopped f) o = o ≡ fault f
-
--- what is left of the catalogue's tree after the names, after the types, and after the sizes
-unfoldable pub after_sizes : Endianness → List Text → List Text → List ℕ → Reader Dna
-unfolding then structured
-after_sizes e names types sizes = then (structured e) (λ structs. done (record { names = names; types = types; sizes = sizes; structs = structs }))
-
-unfoldable pub after_types : Endianness → List Text → List Text → Reader Dna
-unfolding then sized after_sizes
-after_types e names types = then (sized e (length types)) (after_sizes e names types)
-
-unfoldable pub after_names : Endianness → List Text → Reader Dna
-unfolding then listed after_types
-after_names e names = then (listed e (ascii "TYPE")) (after_types e names)
-
--- a catalogue by its places: what stands there
+-- a catalogue by its places: what stands there, and its counts
 abbrev pub dna_at : Endianness → List ℕ → Layout → Dna
-dna_at e s l =
-    record {
-      names = leading l.names text s l.namesat;
-      types = leading l.types text s l.typesat;
-      sizes = leading l.types (size e) s l.sizesat;
-      structs = leading l.structs (struct e) s l.structsat;
-    }
+dna_at e s l = record { names = texts_of s l.names; types = texts_of s l.types; sizes = sizes_of e s l.types.count l.sizesat; structs = structs_of e s l.structs }
+
+abbrev pub counts_of : Layout → DnaCounts
+counts_of l = record { names = l.names.count; types = l.types.count; structs = l.structs.count; fields = l.fields }
 
 -- the whole of a catalogue was found at these places, and they have these numbers
 pub record Whole (e : Endianness) (s : List ℕ) (l : Layout) (o : Outcome Dna) : Type 0 where
   pub found : o ≡ read (dna_at e s l) l.end
-  pub names_are : length (leading l.names text s l.namesat) ≡ l.names
-  pub types_are : length (leading l.types text s l.typesat) ≡ l.types
-  pub sizes_are : length (leading l.types (size e) s l.sizesat) ≡ l.types
-  pub structs_are : length (leading l.structs (struct e) s l.structsat) ≡ l.structs
-  pub fields_are : field_count (leading l.structs (struct e) s l.structsat) ≡ l.fields
+  pub names_are : length (texts_of s l.names) ≡ l.names.count
+  pub types_are : length (texts_of s l.types) ≡ l.types.count
+  pub sizes_are : length (sizes_of e s l.types.count l.sizesat) ≡ l.types.count
+  pub structs_are : length (structs_of e s l.structs) ≡ l.structs.count
+  pub fields_are : field_count (structs_of e s l.structs) ≡ l.fields
 
-abbrev pub LaidIs : Endianness → List ℕ → Laid → Outcome Dna → Type 0
-LaidIs e s (Laid.Is l) o = Whole e s l o
-LaidIs e s (Laid.Stopped f) o = o ≡ fault f
+abbrev pub LaidIs : Endianness → List ℕ → Result Layout Fault → Outcome Dna → Type 0
+LaidIs e s (Ok l) o = Whole e s l o
+LaidIs e s (Err f) o = o ≡ fault f
 
--- a list of strings that was found
-abbrev pub span_of : List ℕ → Span → List Text
-span_of s p = leading p.count text s p.at
-
-abbrev pub Spanned : List ℕ → Span → Type 0
-Spanned s p = length (span_of s p) ≡ p.count
+-- no table is too short: each has its rows
+pub record AllFit (n : DnaCounts) (r : Rooms) : Type 0 where
+  pub names_fit : n.names ≤ r.names
+  pub types_fit : n.types ≤ r.types
+  pub structs_fit : n.structs ≤ r.structs
+  pub fields_fit : n.fields ≤ r.fields

@@ -1,34 +1,34 @@
 // The catalogue: parsers/dna.rs of the Rust, with lent tables. First a pass that counts and refuses, then one that fills.
-ghost use Rattle.std.specs.Prelude.{◌≡◌, ◌+◌, ◌*◌, ◌^◌, ◌≤◌, ◌<◌, [], ◌∷◌, length};
-ghost use Rattle.octets.specs.Helpers.{number_at, past, leading, put};
-ghost use Rattle.octets.specs.Cursor.{moved};
-ghost use Rattle.octets.specs.Number.{number};
+ghost use Rattle.std.specs.Prelude.{◌≡◌, ◌+◌, ◌*◌, ◌^◌, ◌≤◌, ◌<◌, [], ◌∷◌, length, MatchResult};
+ghost use Rattle.octets.specs.Helpers.{number_at, past, put};
+ghost use Rattle.octets.specs.Cursor.{found, moved};
 ghost use Rattle.octets.specs.Reader.{run, times};
+ghost use Rattle.dna.specs.declared.dna.DnaError.{DnaError};
 ghost use Rattle.dna.specs.Catalogue as rules;
-ghost use Rattle.dna.specs.Passes.{ListedIs, SizedIs, StructsAre, OneStructIs, LaidIs, Spanned, span_of, totalled, struct_total, shorts_from, after_names, after_types};
+ghost use Rattle.dna.specs.Passes.{ListedIs, SizedIs, StructsAre, OneStructIs, LaidIs, AllFit, texts_of, sizes_of, structs_of, counts_of, fields_of, totalled, shorts_past};
 ghost use Rattle.dna.specs.Calls as calls;
 
-use octets::cursor::{Counted, Cursor, Moved, Numbered, Width};
+use octets::cursor::{Cursor, Width};
 use octets::{Endianness, Fault};
-use primitive::primitive::{ValueU16, parse_u16};
+use primitive::primitive::parse_u16;
 
 /// A number in the list of types, and one in the list of names. Neither stands in for the other.
-#[derive(Clone, Copy)]
+#[derive(Clone, Copy, Debug, PartialEq, Eq)]
 pub struct TypeNumber(pub u64);
 
 /// The number of a name in the catalogue.
-#[derive(Clone, Copy)]
+#[derive(Clone, Copy, Debug, PartialEq, Eq)]
 pub struct NameNumber(pub u64);
 
 /// A field of a struct: its type and its name, by their numbers.
-#[derive(Clone, Copy)]
+#[derive(Clone, Copy, Debug, PartialEq, Eq)]
 pub struct DnaField {
     pub type_index: TypeNumber,
     pub name_index: NameNumber,
 }
 
 /// How many names, types, structs and fields a catalogue has.
-#[derive(Clone, Copy)]
+#[derive(Clone, Copy, Debug, PartialEq, Eq)]
 pub struct DnaCounts {
     pub names: u64,
     pub types: u64,
@@ -36,81 +36,75 @@ pub struct DnaCounts {
     pub fields: u64,
 }
 
-/// What a payload has, and the place after its last struct; or where and why it does not read.
-#[derive(Clone, Copy)]
-pub enum DnaCounted {
-    Are(DnaCounts, usize),
-    Stopped(Fault),
+/// One of the four tables that dna fills.
+#[derive(Clone, Copy, Debug, PartialEq, Eq)]
+pub enum DnaTable {
+    Names,
+    Types,
+    Structs,
+    Fields,
 }
 
-/// What dna answers: the counts; where and why the payload does not read; or refusal 8 with the first table that is too short and the rows that it needs.
-#[derive(Clone, Copy)]
-pub enum DnaTables {
-    Are(DnaCounts),
-    Refused(Fault),
-    TableTooShort(u64, u64),
+impl DnaTable {
+    /// The number of the table, as refusal 8 carries it.
+    pub fn number(self) -> u64
+        ensures { calls.«dna::DnaTable::number» self result }
+    {
+        match self {
+            DnaTable::Names => 1,
+            DnaTable::Types => 2,
+            DnaTable::Structs => 3,
+            DnaTable::Fields => 4,
+        }
+    }
 }
 
-// A list of strings: how many, where they start, and the place after the padding.
-#[derive(Clone, Copy)]
-pub(crate) enum Listed {
-    Are(u64, usize, usize),
-    Stopped(Fault),
+/// Why dna fills no table.
+#[derive(Clone, Copy, Debug, PartialEq, Eq)]
+pub enum DnaError {
+    /// Where and why the payload does not read.
+    Fault(Fault),
+    /// Refusal 8: the first table that is too short, and the rows that it needs.
+    TableTooShort(DnaTable, u64),
 }
 
-// Sizes: where they start, and the place after the padding.
-#[derive(Clone, Copy)]
-pub(crate) enum Sized {
-    Are(usize, usize),
-    Stopped(Fault),
+impl From<Fault> for DnaError {
+    ghost from_gives = { λ f e. e ≡ DnaError.Fault f };
+
+    fn from(f: Fault) -> Self {
+        DnaError::Fault(f)
+    }
 }
 
-// A struct without its fields: its type, how many fields it has, and the place after them.
-#[derive(Clone, Copy)]
-pub(crate) enum OneStruct {
-    Is(TypeNumber, u64, Cursor),
-    Stopped(Fault),
-}
-
-// How many fields some structs have together, and the place after them.
-#[derive(Clone, Copy)]
-pub(crate) enum StructTotal {
-    Are(u64, Cursor),
-    Stopped(Fault),
-}
-
-// Structs: how many, how many fields they have together, where they start, and the place after them.
-#[derive(Clone, Copy)]
-pub(crate) enum Structs {
-    Are(u64, u64, usize, usize),
-    Stopped(Fault),
-}
-
-// Where the lists of a catalogue start, how many elements each has, and the place after the last struct.
-#[derive(Clone, Copy)]
-pub(crate) struct Layout {
-    pub names: u64,
-    pub types: u64,
-    pub structs: u64,
-    pub fields: u64,
-    pub namesat: usize,
-    pub typesat: usize,
-    pub sizesat: usize,
-    pub structsat: usize,
-    pub end: usize,
-}
-
-// A list of strings that was found: how many, and where they start.
+// A list that was found: how many elements it has, and where they start.
 #[derive(Clone, Copy)]
 pub(crate) struct Span {
     pub count: u64,
     pub at: usize,
 }
 
+// Where the lists of a catalogue stand, how many fields its structs have together, and the place after the last struct. There are as many sizes as types.
 #[derive(Clone, Copy)]
-pub(crate) enum Laid {
-    Is(Layout),
-    Stopped(Fault),
+pub(crate) struct Layout {
+    pub names: Span,
+    pub types: Span,
+    pub sizesat: usize,
+    pub structs: Span,
+    pub fields: u64,
+    pub end: usize,
+}
+
+impl Layout {
+    fn counts(self) -> DnaCounts
+        ensures { result ≡ counts_of self }
+    {
+        DnaCounts {
+            names: self.names.count,
+            types: self.types.count,
+            structs: self.structs.count,
+            fields: self.fields,
+        }
+    }
 }
 
 // How many bytes are missing to a multiple of 4.
@@ -121,325 +115,180 @@ fn padding(n: usize) -> usize
 }
 
 // Past n zero-ended strings.
-fn strings(c: Cursor, s: &[u8], n: u64) -> Moved
+fn strings(c: Cursor, s: &[u8], n: u64) -> Result<Cursor, Fault>
     ensures { moved result ≡ past (run (times n rules.text) s.now c.at) }
 {
     let mut here = c;
-    let mut left = n;
-    while 0 < left {
-        match here.string(s) {
-            Counted::Is(_, next) => {
-                here = next;
-                left -= 1;
-            }
-            Counted::Stopped(f) => {
-                return Moved::Stopped(f);
-            }
-        }
+    for _ in 0..n {
+        (_, here) = here.string(s)?;
     }
-    Moved::To(here)
-}
-
-fn list_strings(c: Cursor, s: &[u8], n: u64) -> Listed
-    ensures { ListedIs s.now result (run (rules.strings n) s.now c.at) }
-{
-    let at = c.at;
-    match strings(c, s, n) {
-        Moved::Stopped(f) => Listed::Stopped(f),
-        Moved::To(end) => match end.skip(s, padding(end.at - at)) {
-            Moved::Stopped(f) => Listed::Stopped(f),
-            Moved::To(next) => Listed::Are(n, at, next.at),
-        },
-    }
-}
-
-fn list_counted(c: Cursor, s: &[u8], e: Endianness) -> Listed
-    ensures { ListedIs s.now result (run (number e 4 rules.strings) s.now c.at) }
-{
-    match c.number(s, Width::Four, e) {
-        Numbered::Stopped(f) => Listed::Stopped(f),
-        Numbered::Is(n, next) => list_strings(next, s, n),
-    }
+    Ok(here)
 }
 
 // A mark, a count, as many strings, and padding.
-fn list(c: Cursor, s: &[u8], e: Endianness, mark: &[u8]) -> Listed
+fn list(c: Cursor, s: &[u8], e: Endianness, mark: &[u8]) -> Result<(Span, Cursor), Fault>
     ensures { ListedIs s.now result (run (rules.listed e mark.now) s.now c.at) }
 {
-    match c.mark(s, mark) {
-        Moved::Stopped(f) => Listed::Stopped(f),
-        Moved::To(next) => list_counted(next, s, e),
-    }
+    let (count, start) = c.mark(s, mark)?.number(s, Width::Four, e)?;
+    let end = strings(start, s, count)?;
+    let padded = end.skip(s, padding(end.at - start.at))?;
+    Ok((
+        Span {
+            count,
+            at: start.at,
+        },
+        padded,
+    ))
 }
 
-// How many numbers of two bytes stand from a place on, one after another.
-fn shorts(s: &[u8], at: usize) -> usize
-    ensures { result ≡ shorts_from s.now at }
+// Past n records of K numbers of two bytes. They are not looked at: what counts is whether they are there, and if not, where the first number stands that
+// is not.
+fn records_past<const K: usize>(c: Cursor, s: &[u8], n: u64) -> Result<Cursor, Fault>
+    requires { 0 < K }
+    ensures { moved result ≡ shorts_past s.now (K * n) c.at }
 {
-    if s.len() < at {
-        return 0;
+    let there = s.len().saturating_sub(c.at) / 2;
+    if n <= (there / K) as u64 {
+        Ok(Cursor::new(c.at + 2 * (K * n as usize)))
+    } else {
+        Err(Fault::Cut(c.at + 2 * there))
     }
-    (s.len() - at) / 2
 }
 
-// Past m sizes. They are not looked at: what counts is whether they are there, and if not, where the first stands that is not.
-fn sizes_past(c: Cursor, s: &[u8], m: u64) -> Moved
-    ensures { (e : Endianness) → moved result ≡ past (run (times m (rules.size e)) s.now c.at) }
-{
-    let at = c.at;
-    let there = shorts(s, at);
-    if m <= (there as u64) {
-        return Moved::To(Cursor {
-            at: at + 2 * (m as usize),
-        });
-    }
-    Moved::Stopped(Fault::Cut(at + 2 * there))
-}
-
-// The sizes of m types, and padding.
-fn sizes(c: Cursor, s: &[u8], e: Endianness, m: u64) -> Sized
+// The sizes of m types, and padding: where they start, and the place after the padding.
+fn sizes(c: Cursor, s: &[u8], e: Endianness, m: u64) -> Result<(usize, Cursor), Fault>
     ensures { SizedIs e m s.now result (run (rules.sized e m) s.now c.at) }
 {
-    match c.mark(s, b"TLEN") {
-        Moved::Stopped(f) => Sized::Stopped(f),
-        Moved::To(from) => match sizes_past(from, s, m) {
-            Moved::Stopped(f) => Sized::Stopped(f),
-            Moved::To(end) => match end.skip(s, padding(end.at - from.at)) {
-                Moved::Stopped(f) => Sized::Stopped(f),
-                Moved::To(next) => Sized::Are(from.at, next.at),
-            },
-        },
-    }
+    let start = c.mark(s, b"TLEN")?;
+    let end = records_past::<1>(start, s, m)?;
+    let padded = end.skip(s, padding(end.at - start.at))?;
+    Ok((start.at, padded))
 }
 
-// Past n field records, as past sizes: each is two numbers of two bytes.
-fn fields_past(c: Cursor, s: &[u8], n: u64) -> Moved
-    ensures { (e : Endianness) → moved result ≡ past (run (times n (rules.field e)) s.now c.at) }
-{
-    let at = c.at;
-    let there = shorts(s, at);
-    if n <= ((there / 2) as u64) {
-        return Moved::To(Cursor {
-            at: at + 4 * (n as usize),
-        });
-    }
-    Moved::Stopped(Fault::Cut(at + 2 * there))
-}
-
-// One struct, past its fields.
-fn one_struct(c: Cursor, s: &[u8], e: Endianness) -> OneStruct
+// One struct, past its fields: its type, how many fields it has, and the place after them.
+fn one_struct(c: Cursor, s: &[u8], e: Endianness) -> Result<(TypeNumber, u64, Cursor), Fault>
     ensures { OneStructIs s.now c.at result (run (rules.struct e) s.now c.at) }
 {
-    match c.number(s, Width::Two, e) {
-        Numbered::Stopped(f) => OneStruct::Stopped(f),
-        Numbered::Is(kind, next) => match next.number(s, Width::Two, e) {
-            Numbered::Stopped(f) => OneStruct::Stopped(f),
-            Numbered::Is(n, from) => match fields_past(from, s, n) {
-                Moved::Stopped(f) => OneStruct::Stopped(f),
-                Moved::To(last) => OneStruct::Is(TypeNumber(kind), n, last),
-            },
-        },
-    }
+    let (kind, next) = c.number(s, Width::Two, e)?;
+    let (n, from) = next.number(s, Width::Two, e)?;
+    let last = records_past::<2>(from, s, n)?;
+    Ok((TypeNumber(kind), n, last))
 }
 
 // Past n structs, with their fields counted.
-fn structs_past(c: Cursor, s: &[u8], e: Endianness, n: u64) -> StructTotal
-    ensures { struct_total result ≡ totalled 0 (run (times n (rules.struct e)) s.now c.at) }
+fn structs_past(c: Cursor, s: &[u8], e: Endianness, n: u64) -> Result<(u64, Cursor), Fault>
+    ensures { found result ≡ totalled 0 (run (times n (rules.struct e)) s.now c.at) }
 {
     let mut here = c;
-    let mut left = n;
     let mut fields: u64 = 0;
-    while 0 < left {
-        match one_struct(here, s, e) {
-            OneStruct::Is(_, count, next) => {
-                here = next;
-                left -= 1;
-                fields += count;
-            }
-            OneStruct::Stopped(f) => {
-                return StructTotal::Stopped(f);
-            }
-        }
+    for _ in 0..n {
+        let (_, count, next) = one_struct(here, s, e)?;
+        fields += count;
+        here = next;
     }
-    StructTotal::Are(fields, here)
+    Ok((fields, here))
 }
 
-fn struct_list(c: Cursor, s: &[u8], e: Endianness) -> Structs
+// The structs: where they stand, how many fields they have together, and the place after them.
+fn struct_list(c: Cursor, s: &[u8], e: Endianness) -> Result<(Span, u64, Cursor), Fault>
     ensures { StructsAre e s.now result (run (rules.structured e) s.now c.at) }
 {
-    match c.mark(s, b"STRC") {
-        Moved::Stopped(f) => Structs::Stopped(f),
-        Moved::To(next) => match next.number(s, Width::Four, e) {
-            Numbered::Stopped(f) => Structs::Stopped(f),
-            Numbered::Is(n, from) => match structs_past(from, s, e, n) {
-                StructTotal::Stopped(f) => Structs::Stopped(f),
-                StructTotal::Are(fields, last) => Structs::Are(n, fields, from.at, last.at),
-            },
+    let (count, start) = c.mark(s, b"STRC")?.number(s, Width::Four, e)?;
+    let (fields, last) = structs_past(start, s, e, count)?;
+    Ok((
+        Span {
+            count,
+            at: start.at,
         },
-    }
-}
-
-// The rest of a catalogue from its types' sizes on.
-fn laid_from_sizes(s: &[u8], e: Endianness, names: Span, types: Span, at: usize) -> Laid
-    requires { Spanned s.now names × Spanned s.now types }
-    ensures { LaidIs e s.now result (run (after_types e (span_of s.now names) (span_of s.now types)) s.now at) }
-{
-    match sizes(Cursor { at: at }, s, e, types.count) {
-        Sized::Stopped(f) => Laid::Stopped(f),
-        Sized::Are(sizesat, next) => match struct_list(Cursor { at: next }, s, e) {
-            Structs::Stopped(f) => Laid::Stopped(f),
-            Structs::Are(structs, fields, structsat, end) => Laid::Is(Layout {
-                names: names.count,
-                types: types.count,
-                structs,
-                fields,
-                namesat: names.at,
-                typesat: types.at,
-                sizesat,
-                structsat,
-                end,
-            }),
-        },
-    }
-}
-
-// The rest of a catalogue from its types on.
-fn laid_from_types(s: &[u8], e: Endianness, names: Span, at: usize) -> Laid
-    requires { Spanned s.now names }
-    ensures { LaidIs e s.now result (run (after_names e (span_of s.now names)) s.now at) }
-{
-    match list(Cursor { at: at }, s, e, b"TYPE") {
-        Listed::Stopped(f) => Laid::Stopped(f),
-        Listed::Are(count, from, next) => laid_from_sizes(
-            s,
-            e,
-            names,
-            Span { count, at: from },
-            next,
-        ),
-    }
+        fields,
+        last,
+    ))
 }
 
 // A whole catalogue.
-fn whole(s: &[u8], e: Endianness) -> Laid
+fn whole(s: &[u8], e: Endianness) -> Result<Layout, Fault>
     ensures { LaidIs e s.now result (run (rules.catalogue e) s.now 0) }
 {
-    let start = Cursor { at: 0 };
-    match start.mark(s, b"SDNA") {
-        Moved::Stopped(f) => Laid::Stopped(f),
-        Moved::To(c) => match list(c, s, e, b"NAME") {
-            Listed::Stopped(f) => Laid::Stopped(f),
-            Listed::Are(count, from, next) => laid_from_types(s, e, Span { count, at: from }, next),
-        },
+    let start = Cursor::new(0).mark(s, b"SDNA")?;
+    let (names, after_names) = list(start, s, e, b"NAME")?;
+    let (types, after_types) = list(after_names, s, e, b"TYPE")?;
+    let (sizesat, after_sizes) = sizes(after_types, s, e, types.count)?;
+    let (structs, fields, last) = struct_list(after_sizes, s, e)?;
+    Ok(Layout {
+        names,
+        types,
+        sizesat,
+        structs,
+        fields,
+        end: last.at,
+    })
+}
+
+// Stores a row of N numbers from a place on, and answers the place after it. A table is not lent in rows, by as_chunks_mut or chunks_exact_mut: no contract
+// says what it ends as then. Nor are its rows numbered: to store the i-th at N * i took 26 thousand instructions more than 658 thousand for lamp.blend.
+fn put_row<const N: usize>(table: &mut [u64], at: usize, row: [u64; N]) -> usize
+    requires { at + N ≤ length table.old }
+    ensures value { result ≡ at + N }
+    ensures table_after { table.new ≡ put table.old at row.entry }
+{
+    let end = at + N;
+    table[at..end].copy_from_slice(&row);
+    end
+}
+
+// Writes the rows of names: offset, length.
+fn fill_names(s: &[u8], names: Span, table: &mut [u64])
+    requires { length (rules.pairs (texts_of s.now names)) ≤ length table.old }
+    ensures { table.new ≡ put table.old 0 (rules.pairs (texts_of s.now names)) }
+{
+    let mut here = Cursor::new(names.at);
+    let mut at = 0;
+    for _ in 0..names.count {
+        let Ok((len, next)) = here.string(s) else {
+            return;
+        };
+        at = put_row(table, at, [here.at as u64, len as u64]);
+        here = next;
     }
 }
 
-// Stores two numbers, and three, from a place on, and answers the place after them.
-fn put_two(table: &mut [u64], i: usize, a: u64, b: u64) -> usize
-    requires { i + 2 ≤ length table.old }
-    ensures value { result ≡ i + 2 }
-    ensures table_after { table.new ≡ put table.old i (a ∷ b ∷ []) }
+// Writes the rows of types: offset, length, size. The strings and their sizes are read side by side.
+fn fill_types(s: &[u8], e: Endianness, types: Span, sizesat: usize, table: &mut [u64])
+    requires { length (rules.type_rows (texts_of s.now types) (sizes_of e s.now types.count sizesat)) ≤ length table.old }
+    ensures { table.new ≡ put table.old 0 (rules.type_rows (texts_of s.now types) (sizes_of e s.now types.count sizesat)) }
 {
-    table[i] = a;
-    table[i + 1] = b;
-    i + 2
-}
-
-fn put_three(table: &mut [u64], i: usize, a: u64, b: u64, c: u64) -> usize
-    requires { i + 3 ≤ length table.old }
-    ensures value { result ≡ i + 3 }
-    ensures table_after { table.new ≡ put table.old i (a ∷ b ∷ c ∷ []) }
-{
-    table[i] = a;
-    table[i + 1] = b;
-    table[i + 2] = c;
-    i + 3
-}
-
-// Writes the rows of n names: offset, length.
-fn fill_names(s: &[u8], at: usize, n: u64, table: &mut [u64])
-    requires { length (rules.pairs (leading n rules.text s.now at)) ≤ length table.old }
-    ensures { table.new ≡ put table.old 0 (rules.pairs (leading n rules.text s.now at)) }
-{
-    let mut here = Cursor { at };
-    let mut left = n;
-    let mut i = 0;
-    while 0 < left {
-        match here.string(s) {
-            Counted::Is(len, next) => {
-                i = put_two(table, i, here.at as u64, len as u64);
-                here = next;
-                left -= 1;
-            }
-            Counted::Stopped(_) => {
-                return;
-            }
-        }
+    let mut here = Cursor::new(types.at);
+    let mut there = Cursor::new(sizesat);
+    let mut at = 0;
+    for _ in 0..types.count {
+        let Ok((len, next)) = here.string(s) else {
+            return;
+        };
+        let Ok((size, after)) = there.number(s, Width::Two, e) else {
+            return;
+        };
+        at = put_row(table, at, [here.at as u64, len as u64, size]);
+        here = next;
+        there = after;
     }
 }
 
-// Writes the rows of m types: offset, length, size. The strings start at at, and the sizes at sizesat.
-fn fill_types(s: &[u8], e: Endianness, at: usize, sizesat: usize, m: u64, table: &mut [u64])
-    requires { length (rules.type_rows (leading m rules.text s.now at) (leading m (rules.size e) s.now sizesat)) ≤ length table.old }
-    ensures { table.new ≡ put table.old 0 (rules.type_rows (leading m rules.text s.now at) (leading m (rules.size e) s.now sizesat)) }
+// Writes the rows of structs: type, first field row, field count.
+fn fill_structs(s: &[u8], e: Endianness, structs: Span, table: &mut [u64])
+    requires { length (rules.struct_rows 0 (structs_of e s.now structs)) ≤ length table.old }
+    ensures { table.new ≡ put table.old 0 (rules.struct_rows 0 (structs_of e s.now structs)) }
 {
-    let mut here = Cursor { at };
-    let mut there = Cursor { at: sizesat };
-    let mut left = m;
-    let mut i = 0;
-    while 0 < left {
-        match here.string(s) {
-            Counted::Is(len, next) => match there.number(s, Width::Two, e) {
-                Numbered::Is(size, after) => {
-                    i = put_three(table, i, here.at as u64, len as u64, size);
-                    here = next;
-                    there = after;
-                    left -= 1;
-                }
-                Numbered::Stopped(_) => {
-                    return;
-                }
-            },
-            Counted::Stopped(_) => {
-                return;
-            }
-        }
-    }
-}
-
-// Writes the rows of n structs: type, first field row, field count.
-fn fill_structs(s: &[u8], e: Endianness, at: usize, n: u64, table: &mut [u64])
-    requires { length (rules.struct_rows 0 (leading n (rules.struct e) s.now at)) ≤ length table.old }
-    ensures { table.new ≡ put table.old 0 (rules.struct_rows 0 (leading n (rules.struct e) s.now at)) }
-{
-    let mut here = Cursor { at };
-    let mut left = n;
+    let mut here = Cursor::new(structs.at);
     let mut row: u64 = 0;
-    let mut i = 0;
-    while 0 < left {
-        match one_struct(here, s, e) {
-            OneStruct::Is(kind, count, next) => {
-                i = put_three(table, i, kind.0, row, count);
-                row += count;
-                here = next;
-                left -= 1;
-            }
-            OneStruct::Stopped(_) => {
-                return;
-            }
-        }
+    let mut at = 0;
+    for _ in 0..structs.count {
+        let Ok((kind, count, next)) = one_struct(here, s, e) else {
+            return;
+        };
+        at = put_row(table, at, [kind.0, row, count]);
+        row += count;
+        here = next;
     }
-}
-
-// Stores a field record: its type number and its name number.
-fn put_field(table: &mut [u64], i: usize, f: DnaField) -> usize
-    requires { i + 2 ≤ length table.old }
-    ensures value { result ≡ i + 2 }
-    ensures table_after { table.new ≡ put table.old i (f.type_index.0 ∷ f.name_index.0 ∷ []) }
-{
-    let kind = f.type_index;
-    let name = f.name_index;
-    put_two(table, i, kind.0, name.0)
 }
 
 // A number of two bytes that stands at a place, and a field record that does.
@@ -447,10 +296,7 @@ fn short(s: &[u8], at: usize, e: Endianness) -> u64
     requires { at + 2 ≤ length s.now }
     ensures { result ≡ number_at e 2 s.now at }
 {
-    match parse_u16(&s[at..at + 2], e) {
-        ValueU16::Is(n) => n as u64,
-        ValueU16::Refused(_) => 0,
-    }
+    u64::from(parse_u16(&s[at..at + 2], e).unwrap())
 }
 
 fn field_there(s: &[u8], at: usize, e: Endianness) -> DnaField
@@ -463,91 +309,83 @@ fn field_there(s: &[u8], at: usize, e: Endianness) -> DnaField
     }
 }
 
-// Writes the rows of one struct's n fields, which are there, from the place i of the table on, and answers the place after them.
-fn fill_struct_fields(
-    s: &[u8],
-    e: Endianness,
-    at: usize,
-    n: u64,
-    table: &mut [u64],
-    i: usize,
-) -> usize
-    requires at_in_bounds { i + length (rules.pairs (leading n (rules.field e) s.now at)) ≤ length table.old }
-    requires n_in_bounds { at + 4 * n ≤ length s.now }
-    ensures value { result ≡ i + length (rules.pairs (leading n (rules.field e) s.now at)) }
-    ensures table_after { table.new ≡ put table.old i (rules.pairs (leading n (rules.field e) s.now at)) }
+// Stores a field record: its type number and its name number.
+fn put_field(table: &mut [u64], at: usize, f: DnaField) -> usize
+    requires { at + 2 ≤ length table.old }
+    ensures value { result ≡ at + 2 }
+    ensures table_after { table.new ≡ put table.old at (f.type_index.0 ∷ f.name_index.0 ∷ []) }
 {
-    let mut here = at;
-    let mut left = n;
-    let mut j = i;
-    while 0 < left {
-        j = put_field(table, j, field_there(s, here, e));
-        here += 4;
-        left -= 1;
-    }
-    j
+    put_row(table, at, [f.type_index.0, f.name_index.0])
 }
 
-// Writes the rows of the fields of n structs: type, name.
-fn fill_fields(s: &[u8], e: Endianness, at: usize, n: u64, table: &mut [u64])
-    requires { length (rules.field_rows (leading n (rules.struct e) s.now at)) ≤ length table.old }
-    ensures { table.new ≡ put table.old 0 (rules.field_rows (leading n (rules.struct e) s.now at)) }
+// Writes the rows of one struct's fields, which are there, from a place of the table on, and answers the place after them.
+fn fill_struct_fields(s: &[u8], e: Endianness, fields: Span, table: &mut [u64], at: usize) -> usize
+    requires rows_in_bounds { at + length (rules.pairs (fields_of e s.now fields)) ≤ length table.old }
+    requires fields_in_bounds { fields.at + 4 * fields.count ≤ length s.now }
+    ensures value { result ≡ at + length (rules.pairs (fields_of e s.now fields)) }
+    ensures table_after { table.new ≡ put table.old at (rules.pairs (fields_of e s.now fields)) }
 {
-    let mut here = Cursor { at };
-    let mut left = n;
-    let mut i = 0;
-    while 0 < left {
-        match one_struct(here, s, e) {
-            OneStruct::Is(_, count, next) => {
-                i = fill_struct_fields(s, e, here.at + 4, count, table, i);
-                here = next;
-                left -= 1;
-            }
-            OneStruct::Stopped(_) => {
-                return;
-            }
-        }
+    let mut next = at;
+    for i in 0..fields.count as usize {
+        next = put_field(table, next, field_there(s, fields.at + 4 * i, e));
+    }
+    next
+}
+
+// Writes the rows of the fields of structs: type, name.
+fn fill_fields(s: &[u8], e: Endianness, structs: Span, table: &mut [u64])
+    requires { length (rules.field_rows (structs_of e s.now structs)) ≤ length table.old }
+    ensures { table.new ≡ put table.old 0 (rules.field_rows (structs_of e s.now structs)) }
+{
+    let mut here = Cursor::new(structs.at);
+    let mut at = 0;
+    for _ in 0..structs.count {
+        let Ok((_, count, next)) = one_struct(here, s, e) else {
+            return;
+        };
+        let fields = Span {
+            count,
+            at: here.at + 4,
+        };
+        at = fill_struct_fields(s, e, fields, table, at);
+        here = next;
     }
 }
 
-/// What a payload has, or where and why it does not read: the catalogue without tables.
-pub fn dna_counts(payload: &[u8], endianness: Endianness) -> DnaCounted
+/// What a payload has, and the place after its last struct; or where and why it does not read. The catalogue without tables.
+pub fn dna_counts(payload: &[u8], endianness: Endianness) -> Result<(DnaCounts, usize), Fault>
     ensures { calls.dna::dna_counts payload.now endianness result }
 {
-    match whole(payload, endianness) {
-        Laid::Stopped(f) => DnaCounted::Stopped(f),
-        Laid::Is(l) => DnaCounted::Are(
-            DnaCounts {
-                names: l.names,
-                types: l.types,
-                structs: l.structs,
-                fields: l.fields,
-            },
-            l.end,
-        ),
-    }
+    let laid = whole(payload, endianness)?;
+    Ok((laid.counts(), laid.end))
 }
 
-// The counts, or the first table of these lengths that is too short.
-fn room_for(n: DnaCounts, names: usize, types: usize, structs: usize, fields: usize) -> DnaTables
-    ensures { rules.paper_tables result ≡ rules.answer_for n (rules.rooms names types structs fields) }
+// The first table of these lengths that is too short.
+fn room_for(
+    n: DnaCounts,
+    names: usize,
+    types: usize,
+    structs: usize,
+    fields: usize,
+) -> Result<(), DnaError>
+    ensures { MatchResult result (λ u. AllFit n (rules.rooms names types structs fields)) (λ e. rules.paper_error e ≡ rules.answer_for n (rules.rooms names types structs fields)) }
 {
     if ((names / 2) as u64) < n.names {
-        return DnaTables::TableTooShort(1, n.names);
+        return Err(DnaError::TableTooShort(DnaTable::Names, n.names));
     }
     if ((types / 3) as u64) < n.types {
-        return DnaTables::TableTooShort(2, n.types);
+        return Err(DnaError::TableTooShort(DnaTable::Types, n.types));
     }
     if ((structs / 3) as u64) < n.structs {
-        return DnaTables::TableTooShort(3, n.structs);
+        return Err(DnaError::TableTooShort(DnaTable::Structs, n.structs));
     }
     if ((fields / 2) as u64) < n.fields {
-        return DnaTables::TableTooShort(4, n.fields);
+        return Err(DnaError::TableTooShort(DnaTable::Fields, n.fields));
     }
-    DnaTables::Are(n)
+    Ok(())
 }
 
-/// Reads a payload into the four tables: names, types, structs, fields.
+/// Reads a payload into the four tables: names, types, structs, fields. A refusal leaves each as it was.
 pub fn dna(
     payload: &[u8],
     endianness: Endianness,
@@ -555,29 +393,15 @@ pub fn dna(
     types: &mut [u64],
     structs: &mut [u64],
     fields: &mut [u64],
-) -> DnaTables
+) -> Result<DnaCounts, DnaError>
     ensures { calls.«dna::dna» payload.now endianness names.old types.old structs.old fields.old result names.new types.new structs.new fields.new }
 {
-    match whole(payload, endianness) {
-        Laid::Stopped(f) => DnaTables::Refused(f),
-        Laid::Is(l) => {
-            let n = DnaCounts {
-                names: l.names,
-                types: l.types,
-                structs: l.structs,
-                fields: l.fields,
-            };
-            match room_for(n, names.len(), types.len(), structs.len(), fields.len()) {
-                DnaTables::Are(_) => {
-                    fill_names(payload, l.namesat, l.names, names);
-                    fill_types(payload, endianness, l.typesat, l.sizesat, l.types, types);
-                    fill_structs(payload, endianness, l.structsat, l.structs, structs);
-                    fill_fields(payload, endianness, l.structsat, l.structs, fields);
-                    DnaTables::Are(n)
-                }
-                DnaTables::Refused(refusal) => DnaTables::Refused(refusal),
-                DnaTables::TableTooShort(which, rows) => DnaTables::TableTooShort(which, rows),
-            }
-        }
-    }
+    let l = whole(payload, endianness)?;
+    let n = l.counts();
+    room_for(n, names.len(), types.len(), structs.len(), fields.len())?;
+    fill_names(payload, l.names, names);
+    fill_types(payload, endianness, l.types, l.sizesat, types);
+    fill_structs(payload, endianness, l.structs, structs);
+    fill_fields(payload, endianness, l.structs, fields);
+    Ok(n)
 }

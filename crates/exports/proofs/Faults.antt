@@ -4,9 +4,9 @@ use mathlib.Core.Bool.{Bool, true, false}
 use mathlib.Core.List.{List}
 use mathlib.Core.Path.{◌≡◌, refl, sym, ◌∙◌, ap}
 use Rattle.octets.specs.declared.Fault.{Fault}
-use Rattle.octets.specs.declared.Fault.TheVariants.{Cut, Mark, Refusal}
+use Rattle.octets.specs.declared.Fault.TheVariants.{Cut, Mark}
 use Rattle.octets.specs.Paper.{Paper}
-use Rattle.octets.specs.Refusals.{refusal_of, place_of, paper_fault}
+use Rattle.octets.specs.Refusals.{number_of, refusal_of, place_of, paper_fault}
 use Rattle.exports.specs.Exports.{is_placed, fault_at, needed_at, header_told, header_out, read_told, read_out, catalogue_told, catalogue_out, dna_of, place_from, step_told, step_out}
 use Rattle.header.specs.Header.{header_bytes}
 use Rattle.walker.specs.declared.Place.{Place}
@@ -21,12 +21,12 @@ either false = refl
 pub place-told : (x : Fault) → place_of x ≡ fault_at (paper_fault x)
 place-told (Cut at) = refl
 place-told (Mark at) = refl
-place-told (Refusal n) = sym (either (is_placed n))
+place-told (Fault.Refusal n) = sym (either (is_placed (number_of n)))
 
 pub nothing_else : (x : Fault) (i : ℕ) → 0 ≡ needed_at (paper_fault x) i
 nothing_else (Cut at) i = refl
 nothing_else (Mark at) i = refl
-nothing_else (Refusal n) i = sym (either (is_placed n))
+nothing_else (Fault.Refusal n) i = sym (either (is_placed (number_of n)))
 
 module _ (x : Fault) where
   pub header_refused : header_told (refusal_of x) (place_of x) (λ i. 0) ≡ header_out (paper_fault x)

@@ -1,52 +1,21 @@
--- The header that numbers stand for: those of a header for that header, others for one that no form has room for; and what `blend_write` tells of a refusal.
-use Prim.Native.Nat.{ℕ, ◌≤◌, ◌<◌}
-use mathlib.Core.Bool.{Bool, true, false, ◌&&◌, ◌||◌}
-use mathlib.Core.List.{List}
-use mathlib.Core.Path.{◌≡◌, refl, sym, ◌∙◌, ap}
-use lib.Dec.{eqb, leb, ltb}
+-- The header that numbers stand for: those of a header for that header.
+use Prim.Native.Nat.{ℕ, ◌≤◌}
+use mathlib.Core.Bool.{Bool, true, false}
+use mathlib.Core.Path.{◌≡◌, refl, ◌∙◌}
+use lib.Dec.{ltb}
 use native.Mathlib.Omega.{arith}
-use borrow.Author.Tests.{eq-eqb, ne_eqb, le-leb, lt-leb, ltb-false, le-ltb}
+use borrow.Author.Tests.{ltb-false}
 use Rattle.octets.specs.declared.Endianness.{Endianness}
 use Rattle.octets.specs.declared.Endianness.TheVariants.{Little, Big}
-use Rattle.octets.specs.declared.Fault.{Fault}
-use Rattle.octets.specs.declared.Fault.TheVariants.{Cut, Mark, Refusal}
 use Rattle.octets.specs.declared.PointerSize.{PointerSize}
 use Rattle.octets.specs.declared.PointerSize.TheVariants.{Bits32, Bits64}
 use Rattle.octets.specs.PointerSize.{pointer_bytes}
-use Rattle.octets.specs.Refusals.{refusal_of, place_of, paper_fault}
 use Rattle.octets.proofs.Tests.{held, failed}
 use Rattle.header.specs.declared.FileFormat.{FileFormat}
 use Rattle.header.specs.declared.FileFormat.TheVariants.{Legacy, New}
 use Rattle.header.specs.declared.Header.{Header}
-use Rattle.header.specs.declared.Version.{Version}
 use Rattle.header.specs.Header.{edition, order}
-use Rattle.header.specs.HeaderOut.{marks_fit, header_fits}
-use Rattle.writer.specs.declared.writer.WriteAnswer.{WriteAnswer}
-use Rattle.writer.specs.Writer.{paper_write, output_after}
-use Rattle.writer.specs.Calls.{«writer::write»}
-use Rattle.exports.specs.declared.BlendWritten.{BlendWritten}
-use Rattle.exports.specs.Exports.{is_placed, order_of, size_of, format_of, is_form, capped, version_of, header_of, written_out}
-use Rattle.exports.specs.Calls.{blend_write}
-
--- whether numbers stand for a form, one test after another
-module _ (e b o : ℕ) where
-  pub no-edition : 1 < e → is_form e b o ≡ false
-  no-edition h = ap (λ (t : Bool). t && leb o 1 && (eqb b 4 || eqb b 8)) (lt-leb _ _ h)
-
-  some-edition : e ≤ 1 → is_form e b o ≡ (leb o 1 && (eqb b 4 || eqb b 8))
-  some-edition h = ap (λ (t : Bool). t && leb o 1 && (eqb b 4 || eqb b 8)) (le-leb _ _ h)
-
-  pub no-order : e ≤ 1 → 1 < o → is_form e b o ≡ false
-  no-order h k = some-edition h ∙ ap (λ (t : Bool). t && (eqb b 4 || eqb b 8)) (lt-leb _ _ k)
-
-  some-order : e ≤ 1 → o ≤ 1 → is_form e b o ≡ (eqb b 4 || eqb b 8)
-  some-order h k = some-edition h ∙ ap (λ (t : Bool). t && (eqb b 4 || eqb b 8)) (le-leb _ _ k)
-
-  pub four : e ≤ 1 → o ≤ 1 → b ≡ 4 → is_form e b o ≡ true
-  four h k f = some-order h k ∙ ap (λ (t : Bool). t || eqb b 8) (eq-eqb _ _ f)
-
-  pub not_four : e ≤ 1 → o ≤ 1 → (b ≡ 4 → ⊥) → is_form e b o ≡ eqb b 8
-  not_four h k f = some-order h k ∙ ap (λ (t : Bool). t || eqb b 8) (ne_eqb _ _ f)
+use Rattle.exports.specs.Exports.{capped, version_of, header_of}
 
 -- the numbers of a header stand for it
 as_it_was : (n : ℕ) → n ≤ 65535 → capped n ≡ n
@@ -72,65 +41,3 @@ back h j n = by h.format h.pointer_size h.endianness
     by New Bits32 Big = rw same refl
     by New Bits64 Little = rw same refl
     by New Bits64 Big = rw same refl
-
--- numbers that stand for no header: no form has room for them
-neither : (b : Bool) → (b && false) ≡ false
-neither true = refl
-neither false = refl
-
-module _ (p : PointerSize) (e : Endianness) where
-  abbrev of : FileFormat → Version → Header
-  of f v = record { pointer_size = p; endianness = e; version = v; format = f }
-
-  major_large : (f : FileFormat) (minor : ℕ) → header_fits (of f (record { major = 65535; minor = minor })) ≡ false
-  major_large Legacy minor = refl
-  major_large New minor = refl
-
-  minor_large : (f : FileFormat) (major : ℕ) → header_fits (of f (record { major = major; minor = 65535 })) ≡ false
-  minor_large Legacy major = neither (leb major 9)
-  minor_large New major = ap (λ (b : Bool). b && marks_fit p e) (neither (leb major 99))
-
-module _ (e b o major minor : ℕ) where
-  abbrev by_form : Bool → Header
-  by_form t = of (size_of b) (order_of o) (format_of e) (version_of t major minor)
-
-  pub no_form : is_form e b o ≡ false → header_fits (header_of e b o major minor) ≡ false
-  no_form h = ap (λ (t : Bool). header_fits (by_form t)) h ∙ major_large (size_of b) (order_of o) (format_of e) 65535
-
-  pub no_major : 65535 < major → header_fits (header_of e b o major minor) ≡ false
-  no_major h = by (is_form e b o)
-    where
-      by : (t : Bool) → header_fits (by_form t) ≡ false
-      by true = rw (failed major 65535 (le-ltb major 65535 (omega (arith, h)))) (major_large (size_of b) (order_of o) (format_of e) (capped minor))
-      by false = major_large (size_of b) (order_of o) (format_of e) 65535
-
-  pub no_minor : 65535 < minor → header_fits (header_of e b o major minor) ≡ false
-  no_minor h = by (is_form e b o)
-    where
-      by : (t : Bool) → header_fits (by_form t) ≡ false
-      by true = rw (failed minor 65535 (le-ltb minor 65535 (omega (arith, h)))) (minor_large (size_of b) (order_of o) (format_of e) (capped major))
-      by false = major_large (size_of b) (order_of o) (format_of e) 65535
-
--- a fault in numbers
-either : (b : Bool) → ◌≡◌ {A = ℕ} 0 (elim b as (λ (c : Bool). ℕ) [ true ↦ 0 | false ↦ 0 ])
-either true = refl
-either false = refl
-
-abbrev told : (refusal at needed row : ℕ) → BlendWritten
-told refusal at needed row = record { refusal = refusal; fault_at = at; needed = needed; row = row; written = 0 }
-
-told-by : (n at needed row : ℕ) → 0 ≡ at → 0 ≡ needed → 0 ≡ row → told n 0 0 0 ≡ told n at needed row
-told-by n at needed row p q r = ap (λ (x : ℕ). told n x 0 0) p ∙ ap (λ (x : ℕ). told n at x 0) q ∙ ap (λ (x : ℕ). told n at needed x) r
-
-pub written-refused : (x : Fault) → told (refusal_of x) (place_of x) 0 0 ≡ written_out (paper_fault x)
-written-refused (Cut at) = refl
-written-refused (Mark at) = refl
-written-refused (Refusal n) = told-by n _ _ _ (either (is_placed n)) (either (eqb n 18)) (either (eqb n 19))
-
--- what the writer answers over the header that numbers stand for
-pub write-by : (edition bytes order major minor : ℕ) (table : List ℕ) (rows : ℕ) (source out : List ℕ) (h : Header) → h ≡ header_of edition bytes order major minor
-    → (a : WriteAnswer) (out' : List ℕ) → «writer::write» h table rows source out a out'
-    → (r : BlendWritten) → r ≡ written_out (paper_write a)
-    → blend_write edition bytes order major minor table rows source out r out'
-write-by edition bytes order major minor table rows source out h e a out' w r t =
-    rw (sym e) (t ∙ ap (λ (x : WriteAnswer). written_out (paper_write x)) w.0, w.1 ∙ ap (λ (x : WriteAnswer). output_after x h table rows source out) w.0)

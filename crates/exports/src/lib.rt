@@ -5,7 +5,9 @@
 
 ghost use Rattle.std.specs.Prelude.{◌≡◌, [], ◌∷◌, length};
 ghost use Rattle.octets.specs.Paper.Paper.{refuses};
+ghost use Rattle.octets.specs.Refusals.{number_of, paper_answer};
 ghost use Rattle.dna.specs.Catalogue as catalogues;
+ghost use Rattle.primitive.specs.Primitive as values;
 ghost use Rattle.field.specs.Declarators as declarators;
 ghost use Rattle.blend.specs.Chain as chains;
 ghost use Rattle.header.specs.Header as headers;
@@ -16,26 +18,25 @@ ghost use Rattle.writer.specs.Writer as writers;
 ghost use Rattle.exports.specs.Exports as rules;
 ghost use Rattle.exports.specs.Calls as calls;
 
-use blend::blend::{BlendAnswer, RawBlend, blend};
+use blend::blend::{BlendError, RawBlend, blend};
 use block::Row;
-use dna::dna::{DnaTables, dna};
-use field::field::{Declarator, FieldInfo, FieldWidth, ParsedField, Span, parse_field, width};
-use header::blend::{HeaderAnswer, header};
+use dna::dna::{DnaCounts, DnaError, dna};
+use field::field::{Declarator, FieldError, FieldInfo, Span, parse_field, width};
+use header::blend::header;
 use header::{FileFormat, Header, Version};
-use index::index::{IndexPointer, Indexed, build, find};
-use octets::{Endianness, Fault, PointerSize};
-use primitive::primitive::{
-    ValueU8, ValueU16, ValueU32, ValueU64, parse_u8, parse_u16, parse_u32, parse_u64,
-};
-use runtime::runtime::{Pointer, ViewAnswer, get_ptr, view};
+use index::index::{IndexError, build, find};
+use octets::{Endianness, Fault, PointerSize, Refusal};
+use primitive::primitive::{parse_u8, parse_u16, parse_u32, parse_u64};
+use runtime::runtime::{Pointer, get_ptr, view};
 use walker::{Place, Step};
-use writer::writer::{WriteAnswer, write};
+use writable::writable::WritableError;
+use writer::writer::{WriteError, write};
 
 // In every struct `refusal` is 0, or the number of a refusal, and then every number that it does not carry is 0. `fault_at` is what 16 and 17 carry.
 
 /// A file's header in numbers.
 #[repr(C)]
-#[derive(Clone, Copy)]
+#[derive(Clone, Copy, Debug, Default, PartialEq, Eq)]
 pub struct BlendHeader {
     pub refusal: u64,
     pub fault_at: u64,
@@ -49,7 +50,7 @@ pub struct BlendHeader {
 
 /// What a reading of a file answers.
 #[repr(C)]
-#[derive(Clone, Copy)]
+#[derive(Clone, Copy, Debug, Default, PartialEq, Eq)]
 pub struct BlendRead {
     pub refusal: u64,
     pub fault_at: u64,
@@ -69,7 +70,7 @@ pub struct BlendRead {
 
 /// What a step of a walk answers: a row, or the end, and the place that it hands back.
 #[repr(C)]
-#[derive(Clone, Copy)]
+#[derive(Clone, Copy, Debug, Default, PartialEq, Eq)]
 pub struct BlendStep {
     pub refusal: u64,
     pub fault_at: u64,
@@ -88,7 +89,7 @@ pub struct BlendStep {
 
 /// What a reading of a catalogue answers.
 #[repr(C)]
-#[derive(Clone, Copy)]
+#[derive(Clone, Copy, Debug, Default, PartialEq, Eq)]
 pub struct BlendCatalogue {
     pub refusal: u64,
     pub fault_at: u64,
@@ -102,7 +103,7 @@ pub struct BlendCatalogue {
 
 /// A field's declarator in numbers.
 #[repr(C)]
-#[derive(Clone, Copy)]
+#[derive(Clone, Copy, Debug, Default, PartialEq, Eq)]
 pub struct BlendField {
     pub refusal: u64,
     pub needed: u64,
@@ -118,7 +119,7 @@ pub struct BlendField {
 
 /// Where a row's payload lies.
 #[repr(C)]
-#[derive(Clone, Copy)]
+#[derive(Clone, Copy, Debug, Default, PartialEq, Eq)]
 pub struct BlendView {
     pub refusal: u64,
     pub at: u64,
@@ -127,7 +128,7 @@ pub struct BlendView {
 
 /// What an address points to.
 #[repr(C)]
-#[derive(Clone, Copy)]
+#[derive(Clone, Copy, Debug, Default, PartialEq, Eq)]
 pub struct BlendPointer {
     pub refusal: u64,
     pub kind: u64,
@@ -136,7 +137,7 @@ pub struct BlendPointer {
 
 /// Whether an index was built.
 #[repr(C)]
-#[derive(Clone, Copy)]
+#[derive(Clone, Copy, Debug, Default, PartialEq, Eq)]
 pub struct BlendIndex {
     pub refusal: u64,
     pub buckets: u64,
@@ -145,7 +146,7 @@ pub struct BlendIndex {
 
 /// What an address points to, by an index.
 #[repr(C)]
-#[derive(Clone, Copy)]
+#[derive(Clone, Copy, Debug, Default, PartialEq, Eq)]
 pub struct BlendFound {
     pub refusal: u64,
     pub buckets: u64,
@@ -156,7 +157,7 @@ pub struct BlendFound {
 
 /// Whether a file was written.
 #[repr(C)]
-#[derive(Clone, Copy)]
+#[derive(Clone, Copy, Debug, Default, PartialEq, Eq)]
 pub struct BlendWritten {
     pub refusal: u64,
     pub fault_at: u64,
@@ -167,7 +168,7 @@ pub struct BlendWritten {
 
 /// A number that a slice begins with.
 #[repr(C)]
-#[derive(Clone, Copy)]
+#[derive(Clone, Copy, Debug, Default, PartialEq, Eq)]
 pub struct BlendValue {
     pub refusal: u64,
     pub value: u64,
@@ -207,7 +208,7 @@ pub fn blend_header(file: &[u8]) -> BlendHeader
     ensures { calls.blend_header file.now result }
 {
     match header(file) {
-        HeaderAnswer::Is(h, at) => {
+        Ok((h, at)) => {
             let format = h.format;
             let size = h.pointer_size;
             let endianness = h.endianness;
@@ -223,22 +224,17 @@ pub fn blend_header(file: &[u8]) -> BlendHeader
                 length: at as u64,
             }
         }
-        HeaderAnswer::Refused(f) => BlendHeader {
+        Err(f) => BlendHeader {
             refusal: f.refusal(),
             fault_at: f.place() as u64,
-            edition: 0,
-            pointer_bytes: 0,
-            order: 0,
-            major: 0,
-            minor: 0,
-            length: 0,
+            ..BlendHeader::default()
         },
     }
 }
 
 // The struct of a file that was read.
 fn read_out(b: RawBlend) -> BlendRead
-    ensures { result ≡ rules.read_out (chains.paper_blend (BlendAnswer.Is b)) }
+    ensures { result ≡ rules.read_out (chains.paper_blend (Ok b)) }
 {
     let h = b.header;
     let format = h.format;
@@ -268,20 +264,10 @@ fn read_refused(refusal: u64, fault_at: u64, needed: u64) -> BlendRead
     ensures { result ≡ rules.read_told refusal fault_at needed (λ i. 0) }
 {
     BlendRead {
-        refusal: refusal,
-        fault_at: fault_at,
-        needed: needed,
-        edition: 0,
-        pointer_bytes: 0,
-        order: 0,
-        major: 0,
-        minor: 0,
-        rows: 0,
-        end: 0,
-        names: 0,
-        types: 0,
-        structs: 0,
-        fields: 0,
+        refusal,
+        fault_at,
+        needed,
+        ..BlendRead::default()
     }
 }
 
@@ -290,10 +276,10 @@ pub fn blend_read(file: &[u8], table: &mut [u64]) -> BlendRead
     ensures { calls.blend_read file.now table.old result table.new }
 {
     match blend(file, table) {
-        BlendAnswer::Is(b) => read_out(b),
-        BlendAnswer::Refused(f) => read_refused(f.refusal(), f.place() as u64, 0),
-        BlendAnswer::TableTooShort(rows) => read_refused(
-            Fault::BLOCK_TABLE_TOO_SHORT,
+        Ok(b) => read_out(b),
+        Err(BlendError::Fault(f)) => read_refused(f.refusal(), f.place() as u64, 0),
+        Err(BlendError::TableTooShort(rows)) => read_refused(
+            Refusal::BLOCK_TABLE_TOO_SHORT,
             0,
             rows as u64,
         ),
@@ -304,7 +290,7 @@ pub fn blend_read(file: &[u8], table: &mut [u64]) -> BlendRead
 fn dna_of(number: u64) -> bool
     ensures { result ≡ rules.dna_of number }
 {
-    if number == 0 { false } else { true }
+    number != 0
 }
 
 fn dna_number(dna: bool) -> u64
@@ -333,9 +319,9 @@ fn step_told(refusal: u64, fault_at: u64, kind: u64, row: Row, end: u64, place: 
     ensures { result ≡ rules.step_told refusal fault_at kind (rows.number_in row) end place }
 {
     BlendStep {
-        refusal: refusal,
-        fault_at: fault_at,
-        kind: kind,
+        refusal,
+        fault_at,
+        kind,
         code: row.code,
         address: row.address,
         index: row.index,
@@ -343,7 +329,7 @@ fn step_told(refusal: u64, fault_at: u64, kind: u64, row: Row, end: u64, place: 
         at: row.at,
         payload: row.payload,
         length: row.len,
-        end: end,
+        end,
         next_at: place.at as u64,
         next_dna: dna_number(place.dna),
     }
@@ -374,22 +360,19 @@ fn catalogue_refused(refusal: u64, fault_at: u64, table: u64, needed: u64) -> Bl
     ensures { result ≡ rules.catalogue_told refusal fault_at table needed (λ i. 0) }
 {
     BlendCatalogue {
-        refusal: refusal,
-        fault_at: fault_at,
-        table: table,
-        needed: needed,
-        names: 0,
-        types: 0,
-        structs: 0,
-        fields: 0,
+        refusal,
+        fault_at,
+        table,
+        needed,
+        ..BlendCatalogue::default()
     }
 }
 
-fn catalogue_out(answer: DnaTables) -> BlendCatalogue
+fn catalogue_out(answer: Result<DnaCounts, DnaError>) -> BlendCatalogue
     ensures { result ≡ rules.catalogue_out (catalogues.paper_tables answer) }
 {
     match answer {
-        DnaTables::Are(n) => BlendCatalogue {
+        Ok(n) => BlendCatalogue {
             refusal: 0,
             fault_at: 0,
             table: 0,
@@ -399,11 +382,11 @@ fn catalogue_out(answer: DnaTables) -> BlendCatalogue
             structs: n.structs,
             fields: n.fields,
         },
-        DnaTables::Refused(f) => catalogue_refused(f.refusal(), f.place() as u64, 0, 0),
-        DnaTables::TableTooShort(which, rows) => catalogue_refused(
-            Fault::CATALOGUE_TABLE_TOO_SHORT,
+        Err(DnaError::Fault(f)) => catalogue_refused(f.refusal(), f.place() as u64, 0, 0),
+        Err(DnaError::TableTooShort(which, rows)) => catalogue_refused(
+            Refusal::CATALOGUE_TABLE_TOO_SHORT,
             0,
-            which,
+            which.number(),
             rows,
         ),
     }
@@ -428,16 +411,9 @@ fn field_refused(refusal: u64, needed: u64) -> BlendField
     ensures { result ≡ rules.field_out (refuses refusal (needed ∷ [])) }
 {
     BlendField {
-        refusal: refusal,
-        needed: needed,
-        kind: 0,
-        name_at: 0,
-        name_length: 0,
-        rest_at: 0,
-        rest_length: 0,
-        indirection: 0,
-        length: 0,
-        dimensions: 0,
+        refusal,
+        needed,
+        ..BlendField::default()
     }
 }
 
@@ -455,14 +431,14 @@ fn field_told(
     BlendField {
         refusal: 0,
         needed: 0,
-        kind: kind,
+        kind,
         name_at: name.at as u64,
         name_length: name.len as u64,
         rest_at: rest.at as u64,
         rest_length: rest.len as u64,
-        indirection: indirection,
-        length: length,
-        dimensions: dimensions,
+        indirection,
+        length,
+        dimensions,
     }
 }
 
@@ -513,10 +489,10 @@ pub fn blend_field(name: &[u8], dimensions: &mut [u64]) -> BlendField
     ensures { calls.blend_field name.now dimensions.old result dimensions.new }
 {
     match parse_field(name, dimensions) {
-        ParsedField::Is(d) => field_out(d),
-        ParsedField::Refused(n) => field_refused(n, 0),
-        ParsedField::DimensionTableTooShort(n) => field_refused(
-            Fault::DIMENSION_TABLE_TOO_SHORT,
+        Ok(d) => field_out(d),
+        Err(FieldError::Refusal(r)) => field_refused(r.number(), 0),
+        Err(FieldError::DimensionTableTooShort(n)) => field_refused(
+            Refusal::DIMENSION_TABLE_TOO_SHORT,
             n as u64,
         ),
     }
@@ -580,25 +556,35 @@ fn size_of(bytes: u64) -> PointerSize
     }
 }
 
+// A number, or the refusal of it.
+fn told(answer: Result<u64, Refusal>) -> BlendValue
+    ensures { result ≡ rules.value_out (paper_answer values.unsigned answer) }
+{
+    match answer {
+        Ok(value) => BlendValue { refusal: 0, value },
+        Err(r) => BlendValue {
+            refusal: r.number(),
+            value: 0,
+        },
+    }
+}
+
 /// How many bytes a field takes whose name blend_field told.
 pub fn blend_width(field: BlendField, size: u64, pointer_bytes: u64) -> BlendValue
     ensures { calls.blend_width field size pointer_bytes result }
 {
     if field.refusal != 0 {
-        return BlendValue {
-            refusal: Fault::NAME_NOT_FULLY_READ,
-            value: 0,
-        };
+        return told(Err(Refusal::NameNotFullyRead));
     }
-    match width(declarator_of(field), size, size_of(pointer_bytes)) {
-        FieldWidth::Is(n) => BlendValue {
-            refusal: 0,
-            value: n,
-        },
-        FieldWidth::Refused(n) => BlendValue {
-            refusal: n,
-            value: 0,
-        },
+    told(width(declarator_of(field), size, size_of(pointer_bytes)))
+}
+
+fn view_refused(r: Refusal) -> BlendView
+    ensures { result ≡ record { refusal = number_of r; at = 0; length = 0 } }
+{
+    BlendView {
+        refusal: r.number(),
+        ..BlendView::default()
     }
 }
 
@@ -606,25 +592,16 @@ pub fn blend_width(field: BlendField, size: u64, pointer_bytes: u64) -> BlendVal
 pub fn blend_view(file: &[u8], table: &[u64], row: usize) -> BlendView
     ensures { calls.blend_view file.now table.now row result }
 {
-    if row < table.len() / Row::NUMBERS {
-        match view(file, table, row) {
-            ViewAnswer::There => BlendView {
-                refusal: 0,
-                at: table[row * Row::NUMBERS + Row::PAYLOAD],
-                length: table[row * Row::NUMBERS + Row::LEN],
-            },
-            ViewAnswer::Refused(n) => BlendView {
-                refusal: n,
-                at: 0,
-                length: 0,
-            },
-        }
-    } else {
-        BlendView {
-            refusal: Fault::NOT_THERE,
-            at: 0,
-            length: 0,
-        }
+    if table.len() / Row::NUMBERS <= row {
+        return view_refused(Refusal::NotThere);
+    }
+    match view(file, table, row) {
+        Ok(()) => BlendView {
+            refusal: 0,
+            at: table[row * Row::NUMBERS + Row::PAYLOAD],
+            length: table[row * Row::NUMBERS + Row::LEN],
+        },
+        Err(r) => view_refused(r),
     }
 }
 
@@ -633,45 +610,45 @@ pub fn blend_lookup(table: &[u64], rows: usize, address: u64) -> BlendPointer
     ensures { calls.blend_lookup table.now rows address result }
 {
     match get_ptr(table, rows, address) {
-        Pointer::Null => BlendPointer {
+        Ok(Pointer::Null) => BlendPointer {
             refusal: 0,
             kind: 0,
             row: 0,
         },
-        Pointer::Block(row) => BlendPointer {
+        Ok(Pointer::Block(row)) => BlendPointer {
             refusal: 0,
             kind: 1,
             row: row as u64,
         },
-        Pointer::Missing => BlendPointer {
+        Ok(Pointer::Missing) => BlendPointer {
             refusal: 0,
             kind: 2,
             row: 0,
         },
-        Pointer::Refused(n) => BlendPointer {
-            refusal: n,
+        Err(r) => BlendPointer {
+            refusal: r.number(),
             kind: 0,
             row: 0,
         },
     }
 }
 
-fn index_out(answer: Indexed) -> BlendIndex
+fn index_out(answer: Result<(), IndexError>) -> BlendIndex
     ensures { result ≡ rules.index_out (indexes.paper_indexed answer) }
 {
     match answer {
-        Indexed::Built => BlendIndex {
+        Ok(()) => BlendIndex {
             refusal: 0,
             buckets: 0,
             rows: 0,
         },
-        Indexed::Refused(n) => BlendIndex {
-            refusal: n,
+        Err(IndexError::Refusal(r)) => BlendIndex {
+            refusal: r.number(),
             buckets: 0,
             rows: 0,
         },
-        Indexed::TooShort(buckets, rows) => BlendIndex {
-            refusal: Fault::INDEX_TOO_SHORT,
+        Err(IndexError::TooShort(buckets, rows)) => BlendIndex {
+            refusal: Refusal::INDEX_TOO_SHORT,
             buckets: buckets as u64,
             rows: rows as u64,
         },
@@ -716,16 +693,16 @@ fn found_refused(refusal: u64, buckets: u64, rows: u64) -> BlendFound
     }
 }
 
-fn found_out(answer: IndexPointer) -> BlendFound
+fn found_out(answer: Result<Pointer, IndexError>) -> BlendFound
     ensures { result ≡ rules.found_out (indexes.paper_found answer) }
 {
     match answer {
-        IndexPointer::Null => found_told(0, 0),
-        IndexPointer::Block(row) => found_told(1, row as u64),
-        IndexPointer::Missing => found_told(2, 0),
-        IndexPointer::Refused(n) => found_refused(n, 0, 0),
-        IndexPointer::TooShort(buckets, rows) => found_refused(
-            Fault::INDEX_TOO_SHORT,
+        Ok(Pointer::Null) => found_told(0, 0),
+        Ok(Pointer::Block(row)) => found_told(1, row as u64),
+        Ok(Pointer::Missing) => found_told(2, 0),
+        Err(IndexError::Refusal(r)) => found_refused(r.number(), 0, 0),
+        Err(IndexError::TooShort(buckets, rows)) => found_refused(
+            Refusal::INDEX_TOO_SHORT,
             buckets as u64,
             rows as u64,
         ),
@@ -761,16 +738,7 @@ fn format_of(edition: u64) -> FileFormat
 fn is_form(edition: u64, pointer_bytes: u64, order: u64) -> bool
     ensures { result ≡ rules.is_form edition pointer_bytes order }
 {
-    if 1 < edition {
-        return false;
-    }
-    if 1 < order {
-        return false;
-    }
-    if pointer_bytes == 4 {
-        return true;
-    }
-    pointer_bytes == 8
+    edition <= 1 && order <= 1 && (pointer_bytes == 4 || pointer_bytes == 8)
 }
 
 // A number as part of a version; 65,535, for which no form has room, where it is larger.
@@ -822,14 +790,18 @@ fn written_told(refusal: u64, fault_at: u64, needed: u64, row: u64, written: u64
     }
 }
 
-fn written_out(answer: WriteAnswer) -> BlendWritten
+fn written_out(answer: Result<usize, WriteError>) -> BlendWritten
     ensures { result ≡ rules.written_out (writers.paper_write answer) }
 {
     match answer {
-        WriteAnswer::Written(n) => written_told(0, 0, 0, 0, n as u64),
-        WriteAnswer::Refused(f) => written_told(f.refusal(), f.place() as u64, 0, 0, 0),
-        WriteAnswer::NoRoom(row) => written_told(Fault::NO_ROOM_IN_FORM, 0, 0, row as u64, 0),
-        WriteAnswer::TooShort(n) => written_told(Fault::OUTPUT_TOO_SHORT, 0, n as u64, 0, 0),
+        Ok(n) => written_told(0, 0, 0, 0, n as u64),
+        Err(WriteError::Unwritable(WritableError::Fault(f))) => {
+            written_told(f.refusal(), f.place() as u64, 0, 0, 0)
+        }
+        Err(WriteError::Unwritable(WritableError::NoRoom(row))) => {
+            written_told(Refusal::NO_ROOM_IN_FORM, 0, 0, row as u64, 0)
+        }
+        Err(WriteError::TooShort(n)) => written_told(Refusal::OUTPUT_TOO_SHORT, 0, n as u64, 0, 0),
     }
 }
 
@@ -856,62 +828,26 @@ pub fn blend_write(
 pub fn blend_u8(slice: &[u8], order: u64) -> BlendValue
     ensures { calls.blend_u8 slice.now order result }
 {
-    match parse_u8(slice, order_of(order)) {
-        ValueU8::Is(n) => BlendValue {
-            refusal: 0,
-            value: n as u64,
-        },
-        ValueU8::Refused(n) => BlendValue {
-            refusal: n,
-            value: 0,
-        },
-    }
+    told(parse_u8(slice, order_of(order)).map(u64::from))
 }
 
 /// The unsigned number of two bytes that a slice begins with.
 pub fn blend_u16(slice: &[u8], order: u64) -> BlendValue
     ensures { calls.blend_u16 slice.now order result }
 {
-    match parse_u16(slice, order_of(order)) {
-        ValueU16::Is(n) => BlendValue {
-            refusal: 0,
-            value: n as u64,
-        },
-        ValueU16::Refused(n) => BlendValue {
-            refusal: n,
-            value: 0,
-        },
-    }
+    told(parse_u16(slice, order_of(order)).map(u64::from))
 }
 
 /// The unsigned number of four bytes that a slice begins with.
 pub fn blend_u32(slice: &[u8], order: u64) -> BlendValue
     ensures { calls.blend_u32 slice.now order result }
 {
-    match parse_u32(slice, order_of(order)) {
-        ValueU32::Is(n) => BlendValue {
-            refusal: 0,
-            value: n as u64,
-        },
-        ValueU32::Refused(n) => BlendValue {
-            refusal: n,
-            value: 0,
-        },
-    }
+    told(parse_u32(slice, order_of(order)).map(u64::from))
 }
 
 /// The unsigned number of eight bytes that a slice begins with.
 pub fn blend_u64(slice: &[u8], order: u64) -> BlendValue
     ensures { calls.blend_u64 slice.now order result }
 {
-    match parse_u64(slice, order_of(order)) {
-        ValueU64::Is(n) => BlendValue {
-            refusal: 0,
-            value: n,
-        },
-        ValueU64::Refused(n) => BlendValue {
-            refusal: n,
-            value: 0,
-        },
-    }
+    told(parse_u64(slice, order_of(order)))
 }

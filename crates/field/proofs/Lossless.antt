@@ -3,15 +3,16 @@ use Prim.Native.Nat.{ℕ}
 use mathlib.Core.List.{List}
 use mathlib.Core.Path.{◌≡◌, sym, ◌∙◌, ap}
 use native.Mathlib.Omega.{arith}
+use Rattle.std.specs.Prelude.{Result, Ok, Err}
+use Rattle.octets.specs.declared.Fault.{Fault}
+use Rattle.octets.specs.declared.Refusal.{Refusal}
 use Rattle.octets.specs.Paper.Paper.{refuses}
-use Rattle.octets.proofs.Lossless.{whole-fault}
+use Rattle.octets.proofs.Lossless.{whole-fault, one_refusal}
 use Rattle.field.specs.declared.field.Declarator as records
 use Rattle.field.specs.declared.field.FieldInfo.{FieldInfo}
-use Rattle.field.specs.declared.field.FieldWidth.{FieldWidth}
-use Rattle.field.specs.declared.field.FnPointerField.{FnPointerField}
-use Rattle.field.specs.declared.field.ParsedField.{ParsedField}
+use Rattle.field.specs.declared.field.FieldError.{FieldError}
 use Rattle.field.specs.declared.field.Span as places
-use Rattle.field.specs.Declarators.{paper_kind, paper_declarator, paper_field, paper_function, paper_width}
+use Rattle.field.specs.Declarators.{paper_kind, paper_declarator, paper_scanned, paper_field, paper_function, paper_width}
 
 place-one : (p q : places.Span) → p.at ≡ q.at → p.len ≡ q.len → p ≡ q
 place-one p q a l = ap (λ (n : ℕ). record { at = n; len = p.len }) a ∙ ap (λ (n : ℕ). record { at = q.at; len = n }) l
@@ -61,25 +62,31 @@ told_apart (FieldInfo.Pointer n1) a b c d n vs h = let z : ◌≡◌ {A = ℕ} 0
 told_apart (FieldInfo.PointerArray n1 l1 d1) a b c d n vs h = let z : ◌≡◌ {A = ℕ} 0 1 = cc in omega arith
 told_apart FieldInfo.FnPointer a b c d n vs h = let z : ◌≡◌ {A = ℕ} 0 1 = cc in omega arith
 
-pub whole-field : (a b : ParsedField) → paper_field a ≡ paper_field b → a ≡ b
-whole-field (ParsedField.Is x) (ParsedField.Is y) h = ap ParsedField.Is (whole-declarator x y h)
-whole-field (ParsedField.Is x) (ParsedField.Refused n) h = absurd (told_apart x.kind _ _ _ _ _ _ h)
-whole-field (ParsedField.Is x) (ParsedField.DimensionTableTooShort y) h = absurd (told_apart x.kind _ _ _ _ _ _ h)
-whole-field (ParsedField.Refused m) (ParsedField.Is y) h = absurd (told_apart y.kind _ _ _ _ _ _ (sym h))
-whole-field (ParsedField.Refused m) (ParsedField.Refused n) h = cc
-whole-field (ParsedField.Refused m) (ParsedField.DimensionTableTooShort y) h = cc
-whole-field (ParsedField.DimensionTableTooShort x) (ParsedField.Is y) h = absurd (told_apart y.kind _ _ _ _ _ _ (sym h))
-whole-field (ParsedField.DimensionTableTooShort x) (ParsedField.Refused n) h = cc
-whole-field (ParsedField.DimensionTableTooShort x) (ParsedField.DimensionTableTooShort y) h = cc
+pub whole-scanned : (a b : Result records.Declarator Refusal) → paper_scanned a ≡ paper_scanned b → a ≡ b
+whole-scanned (Ok x) (Ok y) h = ap Ok (whole-declarator x y h)
+whole-scanned (Ok x) (Err q) h = absurd (told_apart x.kind _ _ _ _ _ _ h)
+whole-scanned (Err r) (Ok y) h = absurd (told_apart y.kind _ _ _ _ _ _ (sym h))
+whole-scanned (Err r) (Err q) h = ap Err (one_refusal r q (cc))
 
-pub whole-function : (a b : FnPointerField) → paper_function a ≡ paper_function b → a ≡ b
-whole-function (FnPointerField.Is x) (FnPointerField.Is y) h = ap FnPointerField.Is (whole-declarator x y h)
-whole-function (FnPointerField.Is x) (FnPointerField.Refused n) h = absurd (told_apart x.kind _ _ _ _ _ _ h)
-whole-function (FnPointerField.Refused m) (FnPointerField.Is y) h = absurd (told_apart y.kind _ _ _ _ _ _ (sym h))
-whole-function (FnPointerField.Refused x) (FnPointerField.Refused y) h = ap FnPointerField.Refused (whole-fault x y h)
+pub whole-field : (a b : Result records.Declarator FieldError) → paper_field a ≡ paper_field b → a ≡ b
+whole-field (Ok x) (Ok y) h = ap Ok (whole-declarator x y h)
+whole-field (Ok x) (Err (FieldError.Refusal q)) h = absurd (told_apart x.kind _ _ _ _ _ _ h)
+whole-field (Ok x) (Err (FieldError.DimensionTableTooShort n)) h = absurd (told_apart x.kind _ _ _ _ _ _ h)
+whole-field (Err (FieldError.Refusal r)) (Ok y) h = absurd (told_apart y.kind _ _ _ _ _ _ (sym h))
+whole-field (Err (FieldError.Refusal r)) (Err (FieldError.Refusal q)) h = ap (λ (x : Refusal). Err (FieldError.Refusal x)) (one_refusal r q (cc))
+whole-field (Err (FieldError.Refusal r)) (Err (FieldError.DimensionTableTooShort n)) h = cc
+whole-field (Err (FieldError.DimensionTableTooShort m)) (Ok y) h = absurd (told_apart y.kind _ _ _ _ _ _ (sym h))
+whole-field (Err (FieldError.DimensionTableTooShort m)) (Err (FieldError.Refusal q)) h = cc
+whole-field (Err (FieldError.DimensionTableTooShort m)) (Err (FieldError.DimensionTableTooShort n)) h = cc
 
-pub whole-width : (a b : FieldWidth) → paper_width a ≡ paper_width b → a ≡ b
-whole-width (FieldWidth.Is x) (FieldWidth.Is y) h = cc
-whole-width (FieldWidth.Is x) (FieldWidth.Refused n) h = cc
-whole-width (FieldWidth.Refused m) (FieldWidth.Is y) h = cc
-whole-width (FieldWidth.Refused m) (FieldWidth.Refused n) h = cc
+pub whole-function : (a b : Result records.Declarator Fault) → paper_function a ≡ paper_function b → a ≡ b
+whole-function (Ok x) (Ok y) h = ap Ok (whole-declarator x y h)
+whole-function (Ok x) (Err g) h = absurd (told_apart x.kind _ _ _ _ _ _ h)
+whole-function (Err f) (Ok y) h = absurd (told_apart y.kind _ _ _ _ _ _ (sym h))
+whole-function (Err f) (Err g) h = ap Err (whole-fault f g h)
+
+pub whole-width : (a b : Result ℕ Refusal) → paper_width a ≡ paper_width b → a ≡ b
+whole-width (Ok x) (Ok y) h = cc
+whole-width (Ok x) (Err q) h = cc
+whole-width (Err r) (Ok y) h = cc
+whole-width (Err r) (Err q) h = ap Err (one_refusal r q (cc))

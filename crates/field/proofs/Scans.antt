@@ -1,17 +1,20 @@
 -- From the parts of a declarator to the whole, as the code finds them.
 use Prim.Native.Char.{code}
-use Prim.Native.Nat.{ℕ, zero, suc, ◌+◌, ◌-◌, ◌≤◌, ◌<◌}
+use Prim.Native.Nat.{ℕ, ◌+◌, ◌-◌, ◌≤◌, ◌<◌}
 use mathlib.Core.Bool.{Bool, true, false}
 use mathlib.Core.List.{List, []}
-use mathlib.Core.Option.{Option, none, some}
+use mathlib.Core.Option.{Option as Maybe, none, some}
 use mathlib.Core.Path.{◌≡◌, refl, sym, ◌∙◌, ap}
 use native.Mathlib.Nat.{zero-add, one-mul}
 use native.Mathlib.Omega.{arith}
 use borrow.Author.Tests.{ltb-true, eq-eqb, ne_eqb}
 use lib.ListN.{length, take, drop, length-drop}
+use Rattle.std.specs.Prelude.{Option, Some, Ok, Err}
 use Rattle.octets.specs.Ascii.{ascii}
 use Rattle.octets.specs.declared.Fault.{Fault}
 use Rattle.octets.specs.declared.Fault.TheVariants.{Cut}
+use Rattle.octets.specs.declared.Refusal.{Refusal}
+use Rattle.octets.specs.declared.Refusal.TheVariants.{InvalidArraySize}
 use Rattle.octets.specs.Number.{tag}
 use Rattle.octets.specs.Reader.{Reader, Outcome, run, before, ended_by}
 use Rattle.octets.specs.Reader.Reader.{done, here, until}
@@ -20,46 +23,28 @@ use Rattle.octets.proofs.Onward.{tag-on, tag-stops, until-on, until-stops}
 use Rattle.octets.proofs.Reading.{to_the_end}
 use Rattle.octets.proofs.Tests.{held, failed}
 use Rattle.field.specs.declared.field.FieldInfo.{FieldInfo}
-use Rattle.field.specs.declared.field.FnPointerField.{FnPointerField}
 use Rattle.field.specs.declared.field.Groups.{Groups}
-use Rattle.field.specs.declared.field.Product.{Product}
 use Rattle.field.specs.declared.field.Scan.{Scan}
 use Rattle.field.specs.Declarators.{Span, first, onwards, function_pointer, stars, name_end, groups, numbers, spanned, product, array_of, pointer_or_value}
-use Rattle.field.specs.Helpers.{plain_kind, array_kind, place_of, declarator_of, function_args, function_by, function_of, scan_of, capped, all_times, finish_by, finish}
+use Rattle.field.specs.Helpers.{plain_kind, place_of, declarator_of, function_args, function_by, function_of, scan_of, capped, all_times, finish_by, finish}
 use Rattle.field.proofs.Products.{all-capped}
 use Rattle.field.proofs.Dimensions.{first-le, stars-le, groups-within}
-
--- the kinds, by whether there is an asterisk
-pub no_star : (n : ℕ) → n ≡ 0 → FieldInfo.Value ≡ plain_kind n
-no_star n e = rw e
-
-pub some_star : (n : ℕ) → (n ≡ 0 → ⊥) → FieldInfo.Pointer n ≡ plain_kind n
-some_star zero z = absurd (z refl)
-some_star (suc n) z = refl
-
-module _ (n len dimensions : ℕ) where
-  pub no_star_array : n ≡ 0 → FieldInfo.ValueArray len dimensions ≡ array_kind n len dimensions
-  no_star_array e = rw e
-
-pub some_star_array : (n len dimensions : ℕ) → (n ≡ 0 → ⊥) → FieldInfo.PointerArray n len dimensions ≡ array_kind n len dimensions
-some_star_array zero len dimensions z = absurd (z refl)
-some_star_array (suc n) len dimensions z = refl
 
 -- the reads of a function pointer, one after another
 module _ (s : List ℕ) where
   module _ (name : Span) (at : ℕ) where
-    pub args_stop : (x : Fault) → ◌≡◌ {A = Outcome (Unit {0})} (fault x) (run (tag (ascii "(") (done tt)) s at) → FnPointerField.Refused x ≡ function_by s (run (function_args name) s at)
+    pub args_stop : (x : Fault) → ◌≡◌ {A = Outcome (Unit {0})} (fault x) (run (tag (ascii "(") (done tt)) s at) → Err x ≡ function_by s (run (function_args name) s at)
     args_stop x h = sym (ap (function_by s) (tag-stops s at (ascii "(") (until (code ")") (λ n. done name)) x h))
 
     module _ (next : ℕ) (h : ◌≡◌ {A = Outcome (Unit {0})} (read tt next) (run (tag (ascii "(") (done tt)) s at)) where
       args-on : run (function_args name) s at ≡ run (until (code ")") (λ n. done name)) s next
       args-on = tag-on s at (ascii "(") (until (code ")") (λ n. done name)) next h
 
-      pub args_open : (x : Fault) → fault x ≡ run (until (code ")") done) s next → FnPointerField.Refused x ≡ function_by s (run (function_args name) s at)
+      pub args_open : (x : Fault) → fault x ≡ run (until (code ")") done) s next → Err x ≡ function_by s (run (function_args name) s at)
       args_open x k = sym (ap (function_by s) (args-on ∙ until-stops s next (code ")") (λ n. done name) x k))
 
       pub args_read : (n rest : ℕ) → read n rest ≡ run (until (code ")") done) s next
-          → FnPointerField.Is (declarator_of name (onwards s rest) FieldInfo.FnPointer) ≡ function_by s (run (function_args name) s at)
+          → Ok (declarator_of name (onwards s rest) FieldInfo.FnPointer) ≡ function_by s (run (function_args name) s at)
       unfolding run
       args_read n rest k = sym (ap (function_by s) (args-on ∙ until-on s next (code ")") (λ n. done name) n rest k))
 
@@ -67,7 +52,7 @@ module _ (s : List ℕ) where
   name-then : ℕ → Reader Span
   name-then at = until (code ")") (λ len. function_args (at, len))
 
-  pub no_opening : (x : Fault) → ◌≡◌ {A = Outcome (Unit {0})} (fault x) (run (tag (ascii "(*") (done tt)) s 0) → FnPointerField.Refused x ≡ function_of s
+  pub no_opening : (x : Fault) → ◌≡◌ {A = Outcome (Unit {0})} (fault x) (run (tag (ascii "(*") (done tt)) s 0) → Err x ≡ function_of s
   unfolding function_of function_pointer name-then
   no_opening x h = sym (ap (function_by s) (tag-stops s 0 (ascii "(*") (here name-then) x h))
 
@@ -76,7 +61,7 @@ module _ (s : List ℕ) where
     unfolding function_pointer name-then run
     opened = tag-on s 0 (ascii "(*") (here name-then) from h
 
-    pub name_open : (x : Fault) → fault x ≡ run (until (code ")") done) s from → FnPointerField.Refused x ≡ function_of s
+    pub name_open : (x : Fault) → fault x ≡ run (until (code ")") done) s from → Err x ≡ function_of s
     unfolding function_of name-then
     name_open x k = sym (ap (function_by s) (opened ∙ until-stops s from (code ")") (λ len. function_args (from, len)) x k))
 
@@ -100,17 +85,17 @@ rest-inside s c at n next h = go (ended_by c s at) refl h
         absurd (omega arith)
 
 -- what the loop over all groups found
-found_bad : (n k : ℕ) (p : Product) (o : Option (List ℕ)) → Groups.Bad ≡ finish_by n p k o → o ≡ none
-found_bad n k p none h = refl
-found_bad n k p (some ds) h = cc
+found_bad : (n k : ℕ) (p : Option ℕ) (o : Maybe (List ℕ)) (r : Refusal) → Err r ≡ finish_by n p k o → (o ≡ none) × (r ≡ InvalidArraySize)
+found_bad n k p none r h = (refl, cc)
+found_bad n k p (some ds) r h = (cc, cc)
 
-found_are : (k : ℕ) (o : Option (List ℕ)) (count span : ℕ) (p : Product) → Groups.Are count p span ≡ finish_by 0 (Product.Is 1) k o
-    → (ds : List ℕ) × (o ≡ some ds) × (count ≡ length ds) × (p ≡ capped (product ds)) × (span ≡ k)
-found_are k none count span p h = ([], cc, cc, cc, cc)
-found_are k (some ds) count span p h =
-    let n : count ≡ 0 + length ds = cc in
-    let q : p ≡ all_times (Product.Is 1) ds = cc in
-    (ds, refl, n ∙ zero-add (length ds), q ∙ all-capped 1 ds ∙ ap capped (one-mul (product ds)), cc)
+found_are : (k : ℕ) (o : Maybe (List ℕ)) (g : Groups) → Ok g ≡ finish_by 0 (Some 1) k o
+    → (ds : List ℕ) × (o ≡ some ds) × (g ≡ record { count = length ds; product = capped (product ds); span = k })
+found_are k none g h = ([], cc, cc)
+found_are k (some ds) g h =
+    let e : g ≡ record { count = 0 + length ds; product = all_times (Some 1) ds; span = k } = cc in
+    let q : all_times (Some 1) ds ≡ capped (product ds) = all-capped 1 ds ∙ ap capped (one-mul (product ds)) in
+    (ds, refl, rw (zero-add (length ds), q) at e)
 
 -- a pointer or a value
 module _ (s : List ℕ) (n end : ℕ) (en : n ≡ stars s) (ee : end ≡ first (code "[") s n) where
@@ -120,7 +105,7 @@ module _ (s : List ℕ) (n end : ℕ) (en : n ≡ stars s) (ee : end ≡ first (
   pub end-le : end ≤ length s
   end-le = rw at-end (first-le (code "[") s (stars s) (stars-le s))
 
-  pub plain_scan : (kind : FieldInfo) → end ≡ length s → kind ≡ plain_kind n → Scan.Plain (declarator_of (n, end - n) (end, length s - end) kind) ≡ scan_of (pointer_or_value s)
+  pub plain_scan : (kind : FieldInfo) → end ≡ length s → kind ≡ plain_kind n → Ok (Scan.Plain (declarator_of (n, end - n) (end, length s - end) kind)) ≡ scan_of (pointer_or_value s)
   unfolding scan_of pointer_or_value
   plain_scan kind t k = rw (k, at-end, en) (sym (ap scan_of (held _ _ (eq-eqb _ _ (sym at-end ∙ t)))))
 
@@ -131,25 +116,30 @@ module _ (s : List ℕ) (n end : ℕ) (en : n ≡ stars s) (ee : end ≡ first (
         let y : name_end s ≡ length s → ⊥ = λ e. z (at-end ∙ e) in
         rw at-end (sym (failed _ _ (ne_eqb _ _ y)))
 
-    pub bad_scan : Groups.Bad ≡ finish 0 (Product.Is 1) 0 (take (length s - end) (drop end s)) → Scan.Invalid ≡ scan_of (pointer_or_value s)
+    pub bad_scan : (r : Refusal) → Err r ≡ finish 0 (Some 1) 0 (take (length s - end) (drop end s)) → Err r ≡ scan_of (pointer_or_value s)
     unfolding finish scan_of
-    bad_scan h =
-        let b : numbers (groups (drop end s)) ≡ none = found_bad _ _ _ _ (rw (to_the_end s end) at h) in
-        ap scan_of (ap (array_of s (groups (drop end s))) (sym b) ∙ as-array)
+    bad_scan r h =
+        let b = found_bad _ _ _ (numbers (groups (drop end s))) r (rw (to_the_end s end) at h) in
+        rw b.1 (ap scan_of (ap (array_of s (groups (drop end s))) (sym b.0) ∙ as-array))
 
-    array-with : (count span : ℕ) (p : Product) (ds : List ℕ) → numbers (groups (drop end s)) ≡ some ds → count ≡ length ds → p ≡ capped (product ds)
-        → span ≡ spanned (groups (drop end s)) → Scan.Array n (place_of (n, end - n)) (place_of (end + span, length s - (end + span))) count p ≡ scan_of (pointer_or_value s)
+    array-with : (count span : ℕ) (p : Option ℕ) (ds : List ℕ) → numbers (groups (drop end s)) ≡ some ds → count ≡ length ds → p ≡ capped (product ds)
+        → span ≡ spanned (groups (drop end s))
+        → Ok (Scan.Array (record { indirection_count = n; name = place_of (n, end - n); rest = place_of (onwards s (end + span)); count = count; product = p })) ≡ scan_of (pointer_or_value s)
     unfolding scan_of
     array-with count span p ds w c q e =
         rw (c, q, e, en, at-end) (ap scan_of (ap (array_of s (groups (drop (name_end s) s))) (sym (rw at-end at w)) ∙ rw at-end at as-array))
 
-    module _ (count span : ℕ) (p : Product) (h : Groups.Are count p span ≡ finish 0 (Product.Is 1) 0 (take (length s - end) (drop end s))) where
-      parts : (ds : List ℕ) × (numbers (groups (drop end s)) ≡ some ds) × (count ≡ length ds) × (p ≡ capped (product ds)) × (span ≡ 0 + spanned (groups (drop end s)))
+    module _ (g : Groups) (h : Ok g ≡ finish 0 (Some 1) 0 (take (length s - end) (drop end s))) where
+      parts : (ds : List ℕ) × (numbers (groups (drop end s)) ≡ some ds) × (g ≡ record { count = length ds; product = capped (product ds); span = 0 + spanned (groups (drop end s)) })
       unfolding finish
-      parts = found_are (0 + spanned (groups (drop end s))) (numbers (groups (drop end s))) count span p (rw (to_the_end s end) at h)
+      parts = found_are (0 + spanned (groups (drop end s))) (numbers (groups (drop end s))) g (rw (to_the_end s end) at h)
 
-      pub span_le : end + span ≤ length s
-      span_le = omega (arith, parts.4, groups-within (drop end s), length-drop end s, end-le)
+      span_is : g.span ≡ spanned (groups (drop end s))
+      span_is = rw parts.2 (zero-add _)
 
-      pub array_scan : Scan.Array n (place_of (n, end - n)) (place_of (end + span, length s - (end + span))) count p ≡ scan_of (pointer_or_value s)
-      array_scan = array-with count span p parts.0 parts.1 parts.2 parts.3 (parts.4 ∙ zero-add _)
+      pub span_le : end + g.span ≤ length s
+      span_le = omega (arith, span_is, groups-within (drop end s), length-drop end s, end-le)
+
+      pub array_scan : Ok (Scan.Array (record { indirection_count = n; name = place_of (n, end - n); rest = place_of (onwards s (end + g.span)); count = g.count; product = g.product }))
+          ≡ scan_of (pointer_or_value s)
+      array_scan = array-with g.count g.span g.product parts.0 parts.1 (ap (λ (x : Groups). x.count) parts.2) (ap (λ (x : Groups). x.product) parts.2) span_is

@@ -1,32 +1,34 @@
 -- From what the code found of a declarator to what its answers say on paper, and to what the table holds.
 use Prim.Native.Char.{code}
-use Prim.Native.Nat.{ℕ, zero, suc, ◌+◌, ◌*◌, ◌-◌, ◌≤◌, ◌<◌}
+use Prim.Native.Nat.{ℕ, zero, suc, ◌+◌, ◌-◌, ◌≤◌, ◌<◌}
 use mathlib.Core.Bool.{Bool, true, false}
-use mathlib.Core.List.{List, [], ◌∷◌, ◌++◌}
-use mathlib.Core.Option.{Option, none, some}
+use mathlib.Core.List.{List, [], ◌++◌}
+use mathlib.Core.Option.{Option as Maybe, none, some}
 use mathlib.Core.Path.{◌≡◌, refl, sym, ◌∙◌, ap}
 use native.Mathlib.Omega.{arith}
-use borrow.Author.Tests.{le-leb, lt-leb, le-ltb, lt-ltb, leb-true, leb-false}
+use borrow.Author.Tests.{le-ltb, lt-ltb}
 use lib.Dec.{leb, eqb}
 use lib.ListN.{length, take, drop}
+use Rattle.std.specs.Prelude.{Option, Some, None, Ok, Err}
 use Rattle.octets.specs.declared.Fault.{Fault}
+use Rattle.octets.specs.declared.Refusal.{Refusal}
+use Rattle.octets.specs.declared.Refusal.TheVariants.{InvalidArraySize}
+use Rattle.octets.specs.Paper.{Paper}
 use Rattle.octets.specs.Paper.Paper.{accepts}
 use Rattle.octets.specs.Reader.{Outcome, run}
 use Rattle.octets.specs.Reader.Outcome.{read, fault}
-use Rattle.octets.specs.Refusals.{invalid_array_size, product_too_large, dimension_table_too_short}
+use Rattle.octets.specs.Refusals.{product_too_large, dimension_table_too_short, paper_refusal}
 use Rattle.octets.specs.Tables.{over}
-use Rattle.octets.proofs.Filling.{accepted-written}
+use Rattle.octets.proofs.Filling.{accepted-written, refused-kept}
 use Rattle.octets.proofs.Reading.{to_the_end}
 use Rattle.octets.proofs.Tests.{held, failed}
 use Rattle.field.specs.declared.field.Declarator as records
 use Rattle.field.specs.declared.field.FieldInfo.{FieldInfo}
-use Rattle.field.specs.declared.field.FnPointerField.{FnPointerField}
-use Rattle.field.specs.declared.field.Span as places
-use Rattle.field.specs.declared.field.Product.{Product}
+use Rattle.field.specs.declared.field.ArrayParts.{ArrayParts}
 use Rattle.field.specs.declared.field.Scan.{Scan}
-use Rattle.field.specs.Declarators.{Span, Said, most, stars, name_end, groups, numbers, product, function_pointer, array_of, pointer_or_value, or_else, declared, scanned_as, parsed_as, dimensions_of, filled_by, function_told, function_as, paper_kind, paper_declarator, paper_function, array_told, width_told}
+use Rattle.field.specs.Declarators.{Span, Said, most, stars, name_end, groups, numbers, product, function_pointer, array_of, pointer_or_value, or_else, declared, scanned_as, parsed_as, dimensions_of, filled_by, function_told, function_as, paper_kind, paper_declarator, paper_scanned, paper_function, array_told}
 use Rattle.field.specs.Declarators.Said.{function, plain, array, invalid}
-use Rattle.field.specs.Helpers.{capped, times_of, place_of, declarator_of, array_kind, leading, scan_of, function_by, function_of}
+use Rattle.field.specs.Helpers.{declarator_of, array_by, array_declared, parts_of, leading, scan_of, function_by, function_of}
 use Rattle.field.proofs.Dimensions.{first-le, stars-le, leading-all}
 
 -- a function pointer or not
@@ -39,23 +41,23 @@ module _ (s : List ℕ) where
       go (read name next) = refl
       go (fault x) = refl
 
-  pub as_function : (d : records.Declarator) → FnPointerField.Is d ≡ function_of s → Scan.Plain d ≡ scan_of (declared s)
+  pub as_function : (d : records.Declarator) → Ok d ≡ function_of s → Ok (Scan.Plain d) ≡ scan_of (declared s)
   unfolding function_of declared scan_of
   as_function d h = go (run function_pointer s 0) h
     where
-      go : (o : Outcome Span) → FnPointerField.Is d ≡ function_by s o → Scan.Plain d ≡ scan_of (or_else s o)
+      go : (o : Outcome Span) → Ok d ≡ function_by s o → Ok (Scan.Plain d) ≡ scan_of (or_else s o)
       go (read name next) e = cc
       go (fault x) e = cc
 
-  pub as_other : (y : Fault) → FnPointerField.Refused y ≡ function_of s → scan_of (pointer_or_value s) ≡ scan_of (declared s)
+  pub as_other : (y : Fault) → Err y ≡ function_of s → scan_of (pointer_or_value s) ≡ scan_of (declared s)
   unfolding function_of declared
   as_other y h = go (run function_pointer s 0) h
     where
-      go : (o : Outcome Span) → FnPointerField.Refused y ≡ function_by s o → scan_of (pointer_or_value s) ≡ scan_of (or_else s o)
+      go : (o : Outcome Span) → Err y ≡ function_by s o → scan_of (pointer_or_value s) ≡ scan_of (or_else s o)
       go (read name next) e = cc
       go (fault x) e = refl
 
--- a declarator is no refusal
+-- a declarator is no refusal, and where it is the answer the table is filled
 accepted : (k : FieldInfo) (name rest : Span) → (kind : ℕ) × (vs : List ℕ) × (paper_kind k name rest ≡ accepts kind vs)
 accepted FieldInfo.Value name rest = (_, _, refl)
 accepted (FieldInfo.ValueArray len dimensions) name rest = (_, _, refl)
@@ -63,9 +65,14 @@ accepted (FieldInfo.Pointer n) name rest = (_, _, refl)
 accepted (FieldInfo.PointerArray n len dimensions) name rest = (_, _, refl)
 accepted FieldInfo.FnPointer name rest = (_, _, refl)
 
+filled : (d : records.Declarator) (q : Said) (t : List ℕ) → paper_declarator d ≡ parsed_as q (length t) → over (dimensions_of q) t ≡ filled_by q t
+filled d q t h =
+    let w = accepted d.kind (d.name.at, d.name.len) (d.rest.at, d.rest.len) in
+    accepted-written (parsed_as q (length t)) w.0 w.1 (dimensions_of q) t (sym w.2 ∙ h)
+
 -- a declarator that is no array: what it says, and that its table stays
 module _ (d : records.Declarator) where
-  pub plain_told_lem : (q : Said) → Scan.Plain d ≡ scan_of q → paper_declarator d ≡ scanned_as q
+  pub plain_told_lem : (q : Said) → Ok (Scan.Plain d) ≡ scan_of q → paper_declarator d ≡ scanned_as q
   unfolding scan_of
   plain_told_lem (function name rest) h =
       let e : d ≡ declarator_of name rest FieldInfo.FnPointer = cc in
@@ -79,118 +86,86 @@ module _ (d : records.Declarator) where
   plain_told_lem (array n name rest ds) h = cc
   plain_told_lem invalid h = cc
 
-  pub plain-parsed : (q : Said) (room : ℕ) → Scan.Plain d ≡ scan_of q → scanned_as q ≡ parsed_as q room
+  plain-parsed : (q : Said) (room : ℕ) → Ok (Scan.Plain d) ≡ scan_of q → (scanned_as q ≡ parsed_as q room) × (dimensions_of q ≡ [])
   unfolding scan_of
-  plain-parsed (function name rest) room h = refl
-  plain-parsed (plain n name rest) room h = refl
-  plain-parsed (array n name rest ds) room h = cc
-  plain-parsed invalid room h = refl
+  plain-parsed (function name rest) room h = (refl, refl)
+  plain-parsed (plain n name rest) room h = (refl, refl)
+  plain-parsed (array n name rest ds) room h = (cc, cc)
+  plain-parsed invalid room h = (refl, refl)
 
-  none_said : (q : Said) → Scan.Plain d ≡ scan_of q → dimensions_of q ≡ []
+  pub plain-answer : (q : Said) (t : List ℕ) → Ok (Scan.Plain d) ≡ scan_of q → (paper_declarator d ≡ parsed_as q (length t)) × (t ≡ filled_by q t)
+  plain-answer q t h =
+      let w = plain-parsed q (length t) h in
+      let e = plain_told_lem q h ∙ w.0 in
+      (e, ap (λ (ds : List ℕ). over ds t) (sym w.1) ∙ filled d q t e)
+
+-- a content that is no number
+module _ (r : Refusal) where
+  invalid-told : (q : Said) → Err r ≡ scan_of q → (q ≡ invalid) × (r ≡ InvalidArraySize)
   unfolding scan_of
-  none_said (function name rest) h = refl
-  none_said (plain n name rest) h = refl
-  none_said (array n name rest ds) h = cc
-  none_said invalid h = refl
+  invalid-told (function name rest) h = (cc, cc)
+  invalid-told (plain n name rest) h = (cc, cc)
+  invalid-told (array n name rest ds) h = (cc, cc)
+  invalid-told invalid h = (refl, cc)
 
-  pub plain-kept : (q : Said) (t : List ℕ) → Scan.Plain d ≡ scan_of q → t ≡ filled_by q t
-  plain-kept q t h =
-      let w = accepted d.kind (d.name.at, d.name.len) (d.rest.at, d.rest.len) in
-      ap (λ (ds : List ℕ). over ds t) (sym (none_said q h))
-      ∙ accepted-written (parsed_as q (length t)) w.0 w.1 (dimensions_of q) t (sym w.2 ∙ plain_told_lem q h ∙ plain-parsed q (length t) h)
+  pub invalid-scanned : (q : Said) → Err r ≡ scan_of q → paper_refusal r ≡ scanned_as q
+  invalid-scanned q h =
+      let w = invalid-told q h in
+      rw (w.0, w.1)
 
-pub invalid-told : (q : Said) → Scan.Invalid ≡ scan_of q → q ≡ invalid
-unfolding scan_of
-invalid-told (function name rest) h = cc
-invalid-told (plain n name rest) h = cc
-invalid-told (array n name rest ds) h = cc
-invalid-told invalid h = refl
+  pub invalid-answer : (q : Said) (t : List ℕ) → Err r ≡ scan_of q → (paper_refusal r ≡ parsed_as q (length t)) × (t ≡ filled_by q t)
+  invalid-answer q t h =
+      let w = invalid-told q h in
+      let e : paper_refusal r ≡ parsed_as q (length t) = rw (w.0, w.1) in
+      (e, refused-kept _ _ _ _ _ e)
 
-pub invalid-parsed : (q : Said) (room : ℕ) → Scan.Invalid ≡ scan_of q → invalid_array_size ≡ parsed_as q room
-invalid-parsed q room h = rw (invalid-told q h)
-
--- an array: its places, its dimensions and its product
-pub record Arrayed (q : Said) (n : ℕ) (name rest : places.Span) (count : ℕ) (p : Product) : Type 0 where
+-- an array: its places and its dimensions
+pub record Arrayed (q : Said) (a : ArrayParts) : Type 0 where
+  pub stars_of : ℕ
   pub at_name : Span
   pub at_rest : Span
   pub dims : List ℕ
-  pub is : q ≡ array n at_name at_rest dims
-  pub its_name : name ≡ place_of at_name
-  pub its_rest : rest ≡ place_of at_rest
-  pub its_count : count ≡ length dims
-  pub its_product : p ≡ capped (product dims)
+  pub is : q ≡ array stars_of at_name at_rest dims
+  pub its_parts : a ≡ parts_of stars_of at_name at_rest dims
 
-pub arrayed : (q : Said) (n : ℕ) (name rest : places.Span) (count : ℕ) (p : Product) → Scan.Array n name rest count p ≡ scan_of q → Arrayed q n name rest count p
+pub arrayed : (q : Said) (a : ArrayParts) → Ok (Scan.Array a) ≡ scan_of q → Arrayed q a
 unfolding scan_of
-arrayed (function a b) n name rest count p h =
-    record { at_name = a; at_rest = b; dims = []; is = cc; its_name = cc; its_rest = cc; its_count = cc; its_product = cc }
-arrayed (plain m a b) n name rest count p h =
-    record { at_name = a; at_rest = b; dims = []; is = cc; its_name = cc; its_rest = cc; its_count = cc; its_product = cc }
-arrayed (array m a b ds) n name rest count p h =
-    record { at_name = a; at_rest = b; dims = ds; is = cc; its_name = cc; its_rest = cc; its_count = cc; its_product = cc }
-arrayed invalid n name rest count p h =
-    record { at_name = (0, 0); at_rest = (0, 0); dims = []; is = cc; its_name = cc; its_rest = cc; its_count = cc; its_product = cc }
+arrayed (function b c) a h = record { stars_of = 0; at_name = b; at_rest = c; dims = []; is = cc; its_parts = cc }
+arrayed (plain m b c) a h = record { stars_of = m; at_name = b; at_rest = c; dims = []; is = cc; its_parts = cc }
+arrayed (array m b c ds) a h = record { stars_of = m; at_name = b; at_rest = c; dims = ds; is = refl; its_parts = cc }
+arrayed invalid a h = record { stars_of = 0; at_name = (0, 0); at_rest = (0, 0); dims = []; is = cc; its_parts = cc }
 
--- a product that is held or not
-capped_is : (len m : ℕ) → Product.Is len ≡ capped m → (len ≡ m) × (m ≤ most)
-capped_is len m h = go (leb m most) refl
+array_paper : (n : ℕ) (name rest : Span) (ds : List ℕ) → paper_scanned (array_declared (parts_of n name rest ds)) ≡ scanned_as (array n name rest ds)
+array_paper n name rest ds = go n (leb (product ds) most)
   where
-    go : (b : Bool) → leb m most ≡ b → (len ≡ m) × (m ≤ most)
-    go true t =
-        let e : Product.Is len ≡ Product.Is m = h ∙ held _ _ t in
-        (cc, leb-true _ _ t)
-    go false t =
-        let e : Product.Is len ≡ Product.Over = h ∙ failed _ _ t in
-        let z : ◌≡◌ {A = ℕ} 0 1 = cc in
-        absurd (omega arith)
+    go : (m : ℕ) (b : Bool) → paper_scanned (array_by (parts_of m name rest ds) (elim b as (λ (c : Bool). Option ℕ) [ true ↦ Some (product ds) | false ↦ None ]))
+        ≡ (elim b as (λ (c : Bool). Paper) [ true ↦ array_told m name rest ds | false ↦ product_too_large ])
+    go zero true = refl
+    go (suc m) true = refl
+    go m false = refl
 
-capped_not : (m : ℕ) → Product.Over ≡ capped m → most < m
-capped_not m h = go (leb m most) refl
-  where
-    go : (b : Bool) → leb m most ≡ b → most < m
-    go true t =
-        let e : Product.Over ≡ Product.Is m = h ∙ held _ _ t in
-        let z : ◌≡◌ {A = ℕ} 0 1 = cc in
-        absurd (omega arith)
-    go false t = leb-false _ _ t
+module _ (q : Said) (a : ArrayParts) (w : Arrayed q a) where
+  pub array-scanned : paper_scanned (array_declared a) ≡ scanned_as q
+  array-scanned = rw (w.its_parts, w.is) (array_paper w.stars_of w.at_name w.at_rest w.dims)
 
--- a width, from one product
-module _ (u e : ℕ) where
-  pub wide_is : (n : ℕ) → Product.Is n ≡ times_of (Product.Is u) e → accepts 0 (n ∷ []) ≡ width_told (u * e)
-  wide_is n h =
-      let w = capped_is n (u * e) h in
-      rw w.0 (sym (held _ _ (le-leb _ _ w.1)))
+  array-room : (room : ℕ) → a.count ≤ room → scanned_as q ≡ parsed_as q room
+  array-room room h = rw w.is (sym (failed _ _ (le-ltb _ _ (rw w.its_parts at h))))
 
-  pub wide_not : Product.Over ≡ times_of (Product.Is u) e → product_too_large ≡ width_told (u * e)
-  wide_not h = sym (failed _ _ (lt-leb _ _ (capped_not (u * e) h)))
+  pub array-no-room : (t : List ℕ) → length t < a.count → (dimension_table_too_short a.count ≡ parsed_as q (length t)) × (t ≡ filled_by q t)
+  array-no-room t h =
+      let e : dimension_table_too_short a.count ≡ parsed_as q (length t) = rw (w.is, w.its_parts) (sym (held _ _ (lt-ltb _ _ (rw w.its_parts at h)))) in
+      (e, refused-kept _ _ _ _ _ e)
 
-array_paper : (n len count : ℕ) (name rest : Span) (ds : List ℕ) → len ≡ product ds → count ≡ length ds
-    → paper_declarator (declarator_of name rest (array_kind n len count)) ≡ array_told n name rest ds
-array_paper zero len count name rest ds e f = rw (e, f)
-array_paper (suc n) len count name rest ds e f = rw (e, f)
+  pub array-too_large : (t : List ℕ) → a.count ≤ length t → (r : Refusal) → Err r ≡ array_declared a → (paper_refusal r ≡ parsed_as q (length t)) × (t ≡ filled_by q t)
+  array-too_large t h r k =
+      let e = ap paper_scanned k ∙ array-scanned ∙ array-room (length t) h in
+      (e, refused-kept _ _ _ _ _ e)
 
-module _ (q : Said) (n : ℕ) (name rest : places.Span) (count : ℕ) (p : Product) (a : Arrayed q n name rest count p) where
-  pub array-scanned : (len : ℕ) → Product.Is len ≡ p → (kind : FieldInfo) → kind ≡ array_kind n len count
-      → paper_declarator (record { name = name; rest = rest; kind = kind }) ≡ scanned_as q
-  array-scanned len h kind k =
-      let w = capped_is len (product a.dims) (h ∙ a.its_product) in
-      rw (a.its_name, a.its_rest, k, a.is) (array_paper n len count a.at_name a.at_rest a.dims w.0 a.its_count ∙ sym (held _ _ (le-leb _ _ w.1)))
-
-  pub array-too_large : Product.Over ≡ p → product_too_large ≡ scanned_as q
-  array-too_large h = rw a.is (sym (failed _ _ (lt-leb _ _ (capped_not (product a.dims) (h ∙ a.its_product)))))
-
-  pub array-room : (room : ℕ) → count ≤ room → scanned_as q ≡ parsed_as q room
-  array-room room h = rw a.is (sym (failed _ _ (le-ltb _ _ (rw a.its_count at h))))
-
-  pub array-no-room : (room : ℕ) → room < count → dimension_table_too_short count ≡ parsed_as q room
-  array-no-room room h = rw (a.is, a.its_count) (sym (held _ _ (lt-ltb _ _ (rw a.its_count at h))))
-
-  pub array-filled : (t : List ℕ) → count ≤ length t → (len : ℕ) → Product.Is len ≡ p → over a.dims t ≡ filled_by q t
-  array-filled t h len i =
-      let w = accepted (array_kind n len count) a.at_name a.at_rest in
-      let e : dimensions_of q ≡ a.dims = ap dimensions_of a.is in
-      let told_as : paper_kind (array_kind n len count) a.at_name a.at_rest ≡ scanned_as q = rw (a.its_name, a.its_rest) at (array-scanned len i (array_kind n len count) refl) in
-      ap (λ (ds : List ℕ). over ds t) (sym e) ∙ accepted-written (parsed_as q (length t)) w.0 w.1 (dimensions_of q) t (sym w.2 ∙ told_as ∙ array-room (length t) h)
+  array-filled : (t : List ℕ) → a.count ≤ length t → (d : records.Declarator) → Ok d ≡ array_declared a → (paper_declarator d ≡ parsed_as q (length t)) × (over w.dims t ≡ filled_by q t)
+  array-filled t h d k =
+      let e = ap paper_scanned k ∙ array-scanned ∙ array-room (length t) h in
+      let f : dimensions_of q ≡ w.dims = ap dimensions_of w.is in
+      (e, ap (λ (ds : List ℕ). over ds t) (sym f) ∙ filled d q t e)
 
 -- where an array's groups stand, and what numbers they hold
 pub record Origin (s : List ℕ) (name : Span) (ds : List ℕ) : Type 0 where
@@ -199,7 +174,7 @@ pub record Origin (s : List ℕ) (name : Span) (ds : List ℕ) : Type 0 where
   pub held-there : leading (groups (drop (name_end s) s)) ≡ ds
 
 module _ (s : List ℕ) (n : ℕ) (name rest : Span) (ds : List ℕ) where
-  by-numbers : (o : Option (List ℕ)) → numbers (groups (drop (name_end s) s)) ≡ o → array_of s (groups (drop (name_end s) s)) o ≡ array n name rest ds → Origin s name ds
+  by-numbers : (o : Maybe (List ℕ)) → numbers (groups (drop (name_end s) s)) ≡ o → array_of s (groups (drop (name_end s) s)) o ≡ array n name rest ds → Origin s name ds
   by-numbers none t h =
       let z : ◌≡◌ {A = ℕ} 0 1 = cc in
       absurd (omega arith)
@@ -226,23 +201,26 @@ module _ (s : List ℕ) (n : ℕ) (name rest : Span) (ds : List ℕ) where
           absurd (omega arith)
       go (fault x) false u g = by-numbers (numbers (groups (drop (name_end s) s))) refl (sym (failed _ _ u) ∙ g)
 
-module _ (s : List ℕ) (n : ℕ) (name rest : places.Span) (count : ℕ) (p : Product) (a : Arrayed (declared s) n name rest count p) where
-  its_origin : Origin s a.at_name a.dims
-  its_origin = origin s n a.at_name a.at_rest a.dims a.is
+module _ (s : List ℕ) (a : ArrayParts) (w : Arrayed (declared s) a) where
+  its_origin : Origin s w.at_name w.dims
+  its_origin = origin s w.stars_of w.at_name w.at_rest w.dims w.is
 
-  at-groups : name.at + name.len ≡ name_end s
-  at-groups = rw a.its_name its_origin.from
+  at-groups : a.name.at + a.name.len ≡ name_end s
+  at-groups = rw w.its_parts its_origin.from
 
-  pub groups-inside : name.at + name.len ≤ length s
+  pub groups-inside : a.name.at + a.name.len ≤ length s
   groups-inside = rw at-groups its_origin.inside
 
-  pub groups_hold : leading (groups (take (length s - (name.at + name.len)) (drop (name.at + name.len) s))) ≡ a.dims
-  groups_hold = rw (to_the_end s (name.at + name.len), at-groups) its_origin.held-there
+  groups_hold : leading (groups (take (length s - (a.name.at + a.name.len)) (drop (a.name.at + a.name.len) s))) ≡ w.dims
+  groups_hold = rw (to_the_end s (a.name.at + a.name.len), at-groups) its_origin.held-there
 
-  pub groups-few : (t : List ℕ) → count ≤ length t → length (leading (groups (take (length s - (name.at + name.len)) (drop (name.at + name.len) s)))) ≤ length t
-  groups-few t h = rw (groups_hold, ← a.its_count) h
+  pub groups-few : (t : List ℕ) → a.count ≤ length t → length (leading (groups (take (length s - (a.name.at + a.name.len)) (drop (a.name.at + a.name.len) s)))) ≤ length t
+  groups-few t h = rw (groups_hold, ← ap (λ (x : ArrayParts). x.count) w.its_parts) h
 
-  pub array_written : (t t' : List ℕ) → count ≤ length t → (len : ℕ) → Product.Is len ≡ p
-      → t' ≡ leading (groups (take (length s - (name.at + name.len)) (drop (name.at + name.len) s)))
-      ++ drop (length (leading (groups (take (length s - (name.at + name.len)) (drop (name.at + name.len) s))))) t → t' ≡ filled_by (declared s) t
-  array_written t t' h len i e = rw groups_hold at e ∙ array-filled (declared s) n name rest count p a t h len i
+  pub array-answer : (t t' : List ℕ) → a.count ≤ length t → (d : records.Declarator) → Ok d ≡ array_declared a
+      → t' ≡ leading (groups (take (length s - (a.name.at + a.name.len)) (drop (a.name.at + a.name.len) s)))
+      ++ drop (length (leading (groups (take (length s - (a.name.at + a.name.len)) (drop (a.name.at + a.name.len) s))))) t
+      → (paper_declarator d ≡ parsed_as (declared s) (length t)) × (t' ≡ filled_by (declared s) t)
+  array-answer t t' h d k e =
+      let f = array-filled (declared s) a w t h d k in
+      (f.0, (rw groups_hold at e) ∙ f.1)

@@ -1,23 +1,23 @@
 -- Declarators: what the bytes of a field's name say. Tried in order: function pointer, pointer, value.
 use Prim.Native.Char.{code}
-use Rattle.std.specs.Prelude.{ℕ, zero, suc, ◌+◌, ◌*◌, ◌-◌, ◌^◌, Bool, true, false, ◌&&◌, List, [], ◌∷◌, leb, ltb, eqb, length, take, drop}
+use Rattle.std.specs.Prelude.{ℕ, zero, suc, ◌+◌, ◌*◌, ◌-◌, ◌^◌, Bool, true, false, ◌&&◌, List, [], ◌∷◌, leb, ltb, eqb, length, take, drop, Result, Ok, Err}
 use Rattle.std.proofs.Math.Option.{Option, none, some}
 use Rattle.octets.specs.Ascii.{ascii, is_digit}
 use Rattle.octets.specs.Paper.{Paper}
 use Rattle.octets.specs.Number.{tag}
-use Rattle.octets.specs.Paper.Paper.{accepts, refuses}
+use Rattle.octets.specs.Paper.Paper.{accepts}
 use Rattle.octets.specs.Reader.{Reader, Outcome, run, before, ended_by, stands}
 use Rattle.octets.specs.Reader.Reader.{done, here, until}
 use Rattle.octets.specs.Reader.Outcome.{read, fault}
-use Rattle.octets.specs.Refusals.{paper_fault, invalid_array_size, product_too_large, dimension_table_too_short, name_not_fully_read}
+use Rattle.octets.specs.Refusals.{paper_fault, paper_refusal, invalid_array_size, product_too_large, dimension_table_too_short, name_not_fully_read}
 use Rattle.octets.specs.Tables.{written}
+use Rattle.octets.specs.declared.Fault.{Fault}
 use Rattle.octets.specs.declared.PointerSize.{PointerSize}
+use Rattle.octets.specs.declared.Refusal.{Refusal}
 use Rattle.octets.specs.PointerSize.{pointer_bytes}
 use Rattle.field.specs.declared.field.Declarator as records
 use Rattle.field.specs.declared.field.FieldInfo.{FieldInfo}
-use Rattle.field.specs.declared.field.ParsedField.{ParsedField}
-use Rattle.field.specs.declared.field.FnPointerField.{FnPointerField}
-use Rattle.field.specs.declared.field.FieldWidth.{FieldWidth}
+use Rattle.field.specs.declared.field.FieldError.{FieldError}
 
 -- where the first byte c from `at` on stands (where there is none: the end of s, or `at` itself past the end); `ended_by` says whether there is one
 abbrev pub first : ℕ → List ℕ → ℕ → ℕ
@@ -189,14 +189,18 @@ paper_kind FieldInfo.FnPointer name rest = told_as 4 name rest []
 abbrev pub paper_declarator : records.Declarator → Paper
 paper_declarator d = paper_kind d.kind (d.name.at, d.name.len) (d.rest.at, d.rest.len)
 
-abbrev pub paper_field : ParsedField → Paper
-paper_field (ParsedField.Is d) = paper_declarator d
-paper_field (ParsedField.Refused n) = refuses n []
-paper_field (ParsedField.DimensionTableTooShort n) = dimension_table_too_short n
+abbrev pub paper_scanned : Result records.Declarator Refusal → Paper
+paper_scanned (Ok d) = paper_declarator d
+paper_scanned (Err r) = paper_refusal r
 
-abbrev pub paper_function : FnPointerField → Paper
-paper_function (FnPointerField.Is d) = paper_declarator d
-paper_function (FnPointerField.Refused f) = paper_fault f
+abbrev pub paper_field : Result records.Declarator FieldError → Paper
+paper_field (Ok d) = paper_declarator d
+paper_field (Err (FieldError.Refusal r)) = paper_refusal r
+paper_field (Err (FieldError.DimensionTableTooShort n)) = dimension_table_too_short n
+
+abbrev pub paper_function : Result records.Declarator Fault → Paper
+paper_function (Ok d) = paper_declarator d
+paper_function (Err f) = paper_fault f
 
 -- Width: type size for a value, times length for an array; pointer bytes (4 or 8) for a pointer or function pointer, times length for a
 -- pointer array.
@@ -224,6 +228,6 @@ width_told n = elim (leb n most) [ true ↦ accepts 0 (n ∷ []) | false ↦ pro
 abbrev pub width_as : records.Declarator → ℕ → PointerSize → Paper
 width_as d size p = elim (eqb d.rest.len 0) [ true ↦ width_told (unit_of d.kind size p * length_of d.kind) | false ↦ name_not_fully_read ]
 
-abbrev pub paper_width : FieldWidth → Paper
-paper_width (FieldWidth.Is n) = accepts 0 (n ∷ [])
-paper_width (FieldWidth.Refused n) = refuses n []
+abbrev pub paper_width : Result ℕ Refusal → Paper
+paper_width (Ok n) = accepts 0 (n ∷ [])
+paper_width (Err r) = paper_refusal r

@@ -2,21 +2,21 @@
 ghost use Rattle.std.specs.Prelude.{◌≡◌, ◌≤◌, ◌++◌, length, drop};
 ghost use Rattle.octets.specs.Reader.{run};
 ghost use Rattle.field.specs.Declarators as rules;
-ghost use Rattle.field.specs.Helpers.{times_of, decimal_of, group_of, finish, leading, scan_of, function_args, function_by, function_of, plain_kind, array_kind};
+ghost use Rattle.field.specs.Helpers.{times_of, decimal_of, with_digit, group_of, finish, leading, place_of, scan_of, array_declared, function_args, function_by, function_of, plain_kind, array_kind};
 ghost use Rattle.field.specs.Calls as calls;
 
-use octets::cursor::{Counted, Cursor, Moved, before, stands_at};
-use octets::{Fault, PointerSize};
+use octets::cursor::{Cursor, before, stands_at};
+use octets::{Fault, PointerSize, Refusal};
 
 /// An offset in the bytes handed in, and a length.
-#[derive(Clone, Copy)]
+#[derive(Clone, Copy, Debug, PartialEq, Eq)]
 pub struct Span {
     pub at: usize,
     pub len: usize,
 }
 
 /// What a declarator declares.
-#[derive(Clone, Copy)]
+#[derive(Clone, Copy, Debug, PartialEq, Eq)]
 pub enum FieldInfo {
     Value,
     ValueArray {
@@ -35,134 +35,99 @@ pub enum FieldInfo {
 }
 
 /// A declarator: its name's place, what is left of it, and what it declares.
-#[derive(Clone, Copy)]
+#[derive(Clone, Copy, Debug, PartialEq, Eq)]
 pub struct Declarator {
     pub name: Span,
     pub rest: Span,
     pub kind: FieldInfo,
 }
 
-/// What parse_field and scan_field answer: the declarator, or refusal 9, 10 or, from parse_field alone, 11 with the number of groups.
-#[derive(Clone, Copy)]
-pub enum ParsedField {
-    Is(Declarator),
-    Refused(u64),
+/// Why parse_field gives no declarator.
+#[derive(Clone, Copy, Debug, PartialEq, Eq)]
+pub enum FieldError {
+    /// 9 or 10: what scan_field refuses.
+    Refusal(Refusal),
+    /// 11, with the number of groups: the table for the dimensions is too short.
     DimensionTableTooShort(usize),
 }
 
-/// What fn_pointer answers: the declarator, or why the bytes are no function pointer, and where in them.
-#[derive(Clone, Copy)]
-pub enum FnPointerField {
-    Is(Declarator),
-    Refused(Fault),
+impl From<Refusal> for FieldError {
+    ghost use Rattle.field.specs.declared.field.FieldError.{FieldError};
+
+    ghost from_gives = { λ r e. e ≡ FieldError.Refusal r };
+
+    fn from(r: Refusal) -> Self {
+        FieldError::Refusal(r)
+    }
 }
 
-/// What width answers: the number of bytes, or refusal 15 or 10.
+// All the groups at the front of some bytes: how many, their product where 64 bits hold it, and how many bytes they take.
 #[derive(Clone, Copy)]
-pub enum FieldWidth {
-    Is(u64),
-    Refused(u64),
+pub(crate) struct Groups {
+    count: usize,
+    product: Option<u64>,
+    span: usize,
 }
 
-// A product that 64 bits hold, or that they do not.
+// An array before the table and the product are looked at.
 #[derive(Clone, Copy)]
-pub(crate) enum Product {
-    Is(u64),
-    Over,
+pub(crate) struct ArrayParts {
+    indirection_count: usize,
+    name: Span,
+    rest: Span,
+    count: usize,
+    product: Option<u64>,
 }
 
-#[derive(Clone, Copy)]
-pub(crate) enum Decimal {
-    Is(u64),
-    Bad,
-}
-
-// What the group at the front of some bytes is: none that is complete, one that holds no number, or a number and how many bytes it takes.
-#[derive(Clone, Copy)]
-pub(crate) enum Group {
-    Absent,
-    Bad,
-    Is(u64, usize),
-}
-
-// All the groups at the front of some bytes: how many, their product, and how many bytes they take.
-#[derive(Clone, Copy)]
-pub(crate) enum Groups {
-    Bad,
-    Are(usize, Product, usize),
-}
-
-// A declarator before the table and the product are looked at.
+// A declarator, or the parts of one that is an array.
 #[derive(Clone, Copy)]
 pub(crate) enum Scan {
     Plain(Declarator),
-    Array(usize, Span, Span, usize, Product),
-    Invalid,
+    Array(ArrayParts),
 }
 
-const MOST: u64 = 0xffff_ffff_ffff_ffff;
-
-fn times(p: Product, d: u64) -> Product
-    ensures { result ≡ times_of p d }
+// One factor more of a product, None where 64 bits do not hold it: that stays so, but for a factor of 0.
+fn times(product: Option<u64>, d: u64) -> Option<u64>
+    ensures { result ≡ times_of product d }
 {
     if d == 0 {
-        return Product::Is(0);
+        return Some(0);
     }
-    match p {
-        Product::Is(n) => {
-            if n <= MOST / d {
-                Product::Is(n * d)
-            } else {
-                Product::Over
-            }
-        }
-        Product::Over => Product::Over,
+    product?.checked_mul(d)
+}
+
+// The number n with one more decimal digit b, where that is a digit and 64 bits hold the number.
+fn with_digit(n: u64, b: u8) -> Option<u64>
+    ensures { result ≡ with_digit n b }
+{
+    if !b.is_ascii_digit() {
+        return None;
     }
+    n.checked_mul(10)?.checked_add(u64::from(b - b'0'))
 }
 
 // Decimal digits, at least one.
-fn digits(part: &[u8]) -> Decimal
+fn digits(part: &[u8]) -> Result<u64, Refusal>
     ensures { result ≡ decimal_of (rules.unsigned part.now) }
 {
-    if part.len() == 0 {
-        return Decimal::Bad;
+    if part.is_empty() {
+        return Err(Refusal::InvalidArraySize);
     }
-    let mut n: u64 = 0;
-    let mut i = 0;
-    while i < part.len() {
-        let b = part[i];
-        if b < b'0' {
-            return Decimal::Bad;
-        }
-        if b'9' < b {
-            return Decimal::Bad;
-        }
-        let d = wide(b - b'0');
-        if (MOST - d) / 10 < n {
-            return Decimal::Bad;
-        }
-        n = n * 10 + d;
-        i += 1;
+    let mut n = 0;
+    for b in part {
+        n = with_digit(n, *b).ok_or(Refusal::InvalidArraySize)?;
     }
-    Decimal::Is(n)
+    Ok(n)
 }
 
-fn wide(b: u8) -> u64
-    ensures { result ≡ b }
-{
-    b as u64
-}
-
-fn dimension(part: &[u8]) -> Decimal
+// A group's content: digits, with a `+` before them or none.
+fn dimension(part: &[u8]) -> Result<u64, Refusal>
     ensures { result ≡ decimal_of (rules.decimal part.now) }
 {
-    if part.len() == 0 {
-        return Decimal::Bad;
+    match part {
+        [b'+', unsigned @ ..] => digits(unsigned),
+        _ => digits(part),
     }
-    if part[0] == b'+' {
-        return digits(&part[1..]);
-    }
-    digits(part)
 }
 
 // Where the first byte c from at on stands; where there is none, the end, or at itself past the end.
@@ -175,46 +140,38 @@ fn first(s: &[u8], c: u8, at: usize) -> usize
     at + before(&s[at..], c)
 }
 
-// The group that l begins with.
-fn one_group(l: &[u8]) -> Group
+// The group that l begins with, its number and how many bytes it takes; none where no complete one stands there.
+fn one_group(l: &[u8]) -> Result<Option<(u64, usize)>, Refusal>
     ensures { result ≡ group_of l.now }
 {
-    if stands_at(l, 0, b"[") {
-        let end = first(l, b']', 1);
-        if l.len() <= end {
-            return Group::Absent;
-        }
-        match dimension(&l[1..end]) {
-            Decimal::Is(d) => Group::Is(d, end + 1),
-            Decimal::Bad => Group::Bad,
-        }
-    } else {
-        Group::Absent
+    if !stands_at(l, 0, b"[") {
+        return Ok(None);
     }
+    let end = first(l, b']', 1);
+    if l.len() <= end {
+        return Ok(None);
+    }
+    let d = dimension(&l[1..end])?;
+    Ok(Some((d, end + 1)))
 }
 
 // The groups that l begins with, taken while complete.
-fn array_dimensions(l: &[u8]) -> Groups
-    ensures { result ≡ finish 0 (Product.Is 1) 0 l.now }
+fn array_dimensions(l: &[u8]) -> Result<Groups, Refusal>
+    ensures { result ≡ finish 0 (Some 1) 0 l.now }
 {
     let mut count = 0;
-    let mut product = Product::Is(1);
+    let mut product = Some(1);
     let mut at = 0;
-    loop {
-        match one_group(&l[at..]) {
-            Group::Is(d, span) => {
-                product = times(product, d);
-                count += 1;
-                at += span;
-            }
-            Group::Bad => {
-                return Groups::Bad;
-            }
-            Group::Absent => {
-                return Groups::Are(count, product, at);
-            }
-        }
+    while let Some((d, span)) = one_group(&l[at..])? {
+        product = times(product, d);
+        count += 1;
+        at += span;
     }
+    Ok(Groups {
+        count,
+        product,
+        span: at,
+    })
 }
 
 // Writes the numbers of the groups that l begins with, up to the first that is none.
@@ -222,22 +179,13 @@ fn fill_dimensions(l: &[u8], dimensions: &mut [u64])
     requires { length (leading (rules.groups l.now)) ≤ length dimensions.old }
     ensures { dimensions.new ≡ leading (rules.groups l.now) ++ drop (length (leading (rules.groups l.now))) dimensions.old }
 {
-    let mut i = 0;
     let mut at = 0;
-    loop {
-        match one_group(&l[at..]) {
-            Group::Is(d, span) => {
-                dimensions[i] = d;
-                i += 1;
-                at += span;
-            }
-            Group::Bad => {
-                return;
-            }
-            Group::Absent => {
-                return;
-            }
-        }
+    for slot in dimensions.iter_mut() {
+        let Ok(Some((d, span))) = one_group(&l[at..]) else {
+            return;
+        };
+        *slot = d;
+        at += span;
     }
 }
 
@@ -245,47 +193,40 @@ fn fill_dimensions(l: &[u8], dimensions: &mut [u64])
 fn stars(name: &[u8]) -> usize
     ensures { result ≡ rules.stars name.now }
 {
-    let mut i = 0;
-    while i < name.len() {
-        if name[i] != b'*' {
-            return i;
-        }
-        i += 1;
+    name.iter().take_while(|b| **b == b'*').count()
+}
+
+// What is left of name from a place in it on.
+fn onwards(name: &[u8], at: usize) -> Span
+    requires { at ≤ length name.now }
+    ensures { result ≡ place_of (rules.onwards name.now at) }
+{
+    Span {
+        at,
+        len: name.len() - at,
     }
-    i
 }
 
 // A function pointer from its second part on; the first has this place.
-fn function_args(name: &[u8], place: Span, c: Cursor) -> FnPointerField
+fn function_args(name: &[u8], place: Span, c: Cursor) -> Result<Declarator, Fault>
     ensures { result ≡ function_by name.now (run (function_args (place.at, place.len)) name.now c.at) }
 {
-    match c.mark(name, b"(") {
-        Moved::Stopped(f) => FnPointerField::Refused(f),
-        Moved::To(args) => match args.until(name, b')') {
-            Counted::Stopped(f) => FnPointerField::Refused(f),
-            Counted::Is(_, rest) => FnPointerField::Is(Declarator {
-                name: place,
-                rest: Span {
-                    at: rest.at,
-                    len: name.len() - rest.at,
-                },
-                kind: FieldInfo::FnPointer,
-            }),
-        },
-    }
+    let args = c.mark(name, b"(")?;
+    let (_, next) = args.until(name, b')')?;
+    Ok(Declarator {
+        name: place,
+        rest: onwards(name, next.at),
+        kind: FieldInfo::FnPointer,
+    })
 }
 
-fn function_pointer(name: &[u8]) -> FnPointerField
+fn function_pointer(name: &[u8]) -> Result<Declarator, Fault>
     ensures { result ≡ function_of name.now }
 {
     let start = Cursor { at: 0 };
-    match start.mark(name, b"(*") {
-        Moved::Stopped(f) => FnPointerField::Refused(f),
-        Moved::To(from) => match from.until(name, b')') {
-            Counted::Stopped(f) => FnPointerField::Refused(f),
-            Counted::Is(len, next) => function_args(name, Span { at: from.at, len }, next),
-        },
-    }
+    let from = start.mark(name, b"(*")?;
+    let (len, next) = from.until(name, b')')?;
+    function_args(name, Span { at: from.at, len }, next)
 }
 
 fn plain_kind(indirection_count: usize) -> FieldInfo
@@ -312,7 +253,21 @@ fn array_kind(indirection_count: usize, len: u64, dimensions: usize) -> FieldInf
     }
 }
 
-fn pointer_or_value(name: &[u8]) -> Scan
+impl ArrayParts {
+    // The array that these are the parts of, where 64 bits hold its length.
+    fn declarator(self) -> Result<Declarator, Refusal>
+        ensures { result ≡ array_declared self }
+    {
+        let len = self.product.ok_or(Refusal::ProductTooLarge)?;
+        Ok(Declarator {
+            name: self.name,
+            rest: self.rest,
+            kind: array_kind(self.indirection_count, len, self.count),
+        })
+    }
+}
+
+fn pointer_or_value(name: &[u8]) -> Result<Scan, Refusal>
     ensures { result ≡ scan_of (rules.pointer_or_value name.now) }
 {
     let n = stars(name);
@@ -322,90 +277,63 @@ fn pointer_or_value(name: &[u8]) -> Scan
         len: end - n,
     };
     if end == name.len() {
-        return Scan::Plain(Declarator {
+        return Ok(Scan::Plain(Declarator {
             name: place,
-            rest: Span {
-                at: end,
-                len: name.len() - end,
-            },
+            rest: onwards(name, end),
             kind: plain_kind(n),
-        });
+        }));
     }
-    match array_dimensions(&name[end..]) {
-        Groups::Bad => Scan::Invalid,
-        Groups::Are(count, product, span) => {
-            let at = end + span;
-            Scan::Array(
-                n,
-                place,
-                Span {
-                    at,
-                    len: name.len() - at,
-                },
-                count,
-                product,
-            )
-        }
-    }
+    let groups = array_dimensions(&name[end..])?;
+    let rest = onwards(name, end + groups.span);
+    Ok(Scan::Array(ArrayParts {
+        indirection_count: n,
+        name: place,
+        rest,
+        count: groups.count,
+        product: groups.product,
+    }))
 }
 
-fn scanned(name: &[u8]) -> Scan
+fn scanned(name: &[u8]) -> Result<Scan, Refusal>
     ensures { result ≡ scan_of (rules.declared name.now) }
 {
     match function_pointer(name) {
-        FnPointerField::Is(d) => Scan::Plain(d),
-        FnPointerField::Refused(_) => pointer_or_value(name),
+        Ok(d) => Ok(Scan::Plain(d)),
+        Err(_) => pointer_or_value(name),
     }
 }
 
 /// A function pointer, or why the bytes are none, and where in them.
-pub fn fn_pointer(name: &[u8]) -> FnPointerField
+pub fn fn_pointer(name: &[u8]) -> Result<Declarator, Fault>
     ensures { calls.field::fn_pointer name.now result }
 {
     function_pointer(name)
 }
 
-/// The declarator that name is, with no table for the dimensions.
-pub fn scan_field(name: &[u8]) -> ParsedField
+/// The declarator that name is, with no table for the dimensions; or refusal 9 or 10.
+pub fn scan_field(name: &[u8]) -> Result<Declarator, Refusal>
     ensures { calls.field::scan_field name.now result }
 {
-    match scanned(name) {
-        Scan::Plain(d) => ParsedField::Is(d),
-        Scan::Invalid => ParsedField::Refused(Fault::INVALID_ARRAY_SIZE),
-        Scan::Array(n, place, rest, count, product) => match product {
-            Product::Is(len) => ParsedField::Is(Declarator {
-                name: place,
-                rest,
-                kind: array_kind(n, len, count),
-            }),
-            Product::Over => ParsedField::Refused(Fault::PRODUCT_TOO_LARGE),
-        },
+    match scanned(name)? {
+        Scan::Plain(d) => Ok(d),
+        Scan::Array(parts) => parts.declarator(),
     }
 }
 
-/// The declarator that name is; its dimensions fill the table from the front.
-pub fn parse_field(name: &[u8], dimensions: &mut [u64]) -> ParsedField
+/// The declarator that name is; its dimensions fill the table from the front. A refusal leaves the table as it was.
+pub fn parse_field(name: &[u8], dimensions: &mut [u64]) -> Result<Declarator, FieldError>
     ensures { calls.field::parse_field name.now dimensions.old result dimensions.new }
 {
-    match scanned(name) {
-        Scan::Plain(d) => ParsedField::Is(d),
-        Scan::Invalid => ParsedField::Refused(Fault::INVALID_ARRAY_SIZE),
-        Scan::Array(n, place, rest, count, product) => {
-            if dimensions.len() < count {
-                return ParsedField::DimensionTableTooShort(count);
+    match scanned(name)? {
+        Scan::Plain(d) => Ok(d),
+        Scan::Array(parts) => {
+            if dimensions.len() < parts.count {
+                return Err(FieldError::DimensionTableTooShort(parts.count));
             }
-            match product {
-                Product::Is(len) => {
-                    let from = place.at + place.len;
-                    fill_dimensions(&name[from..], dimensions);
-                    ParsedField::Is(Declarator {
-                        name: place,
-                        rest,
-                        kind: array_kind(n, len, count),
-                    })
-                }
-                Product::Over => ParsedField::Refused(Fault::PRODUCT_TOO_LARGE),
-            }
+            let d = parts.declarator()?;
+            let from = parts.name.at + parts.name.len;
+            fill_dimensions(&name[from..], dimensions);
+            Ok(d)
         }
     }
 }
@@ -415,20 +343,10 @@ fn unit(kind: FieldInfo, size: u64, pointer_size: PointerSize) -> u64
     ensures { result ≡ rules.unit_of kind size pointer_size }
 {
     match kind {
-        FieldInfo::Value => size,
-        FieldInfo::ValueArray {
-            len: _,
-            dimensions: _,
-        } => size,
-        FieldInfo::Pointer {
-            indirection_count: _,
-        } => pointer_size.bytes_num() as u64,
-        FieldInfo::PointerArray {
-            indirection_count: _,
-            len: _,
-            dimensions: _,
-        } => pointer_size.bytes_num() as u64,
-        FieldInfo::FnPointer => pointer_size.bytes_num() as u64,
+        FieldInfo::Value | FieldInfo::ValueArray { .. } => size,
+        FieldInfo::Pointer { .. } | FieldInfo::PointerArray { .. } | FieldInfo::FnPointer => {
+            pointer_size.bytes_num() as u64
+        }
     }
 }
 
@@ -437,30 +355,19 @@ fn elements(kind: FieldInfo) -> u64
     ensures { result ≡ rules.length_of kind }
 {
     match kind {
-        FieldInfo::Value => 1,
-        FieldInfo::ValueArray { len, dimensions: _ } => len,
-        FieldInfo::Pointer {
-            indirection_count: _,
-        } => 1,
-        FieldInfo::PointerArray {
-            indirection_count: _,
-            len,
-            dimensions: _,
-        } => len,
-        FieldInfo::FnPointer => 1,
+        FieldInfo::ValueArray { len, .. } | FieldInfo::PointerArray { len, .. } => len,
+        FieldInfo::Value | FieldInfo::Pointer { .. } | FieldInfo::FnPointer => 1,
     }
 }
 
-/// How many bytes a field takes, with the size of its type and the pointer size of its file. A declarator with a rest has no width.
-pub fn width(d: Declarator, size: u64, pointer_size: PointerSize) -> FieldWidth
+/// How many bytes a field takes, with the size of its type and the pointer size of its file; or refusal 15, a declarator with a rest has no width, or 10.
+pub fn width(d: Declarator, size: u64, pointer_size: PointerSize) -> Result<u64, Refusal>
     ensures { calls.«field::width» d size pointer_size result }
 {
     if d.rest.len != 0 {
-        return FieldWidth::Refused(Fault::NAME_NOT_FULLY_READ);
+        return Err(Refusal::NameNotFullyRead);
     }
-    let kind = d.kind;
-    match times(Product::Is(unit(kind, size, pointer_size)), elements(kind)) {
-        Product::Is(n) => FieldWidth::Is(n),
-        Product::Over => FieldWidth::Refused(Fault::PRODUCT_TOO_LARGE),
-    }
+    unit(d.kind, size, pointer_size)
+        .checked_mul(elements(d.kind))
+        .ok_or(Refusal::ProductTooLarge)
 }

@@ -7,7 +7,8 @@ use native.Mathlib.Omega.{arith}
 use borrow.Author.Tests.{lt-leb}
 use lib.ListN.{length, take, drop}
 use lib.Seq.{length-take-le, take-take}
-use Rattle.octets.specs.declared.Fault.TheVariants.{Refusal}
+use Rattle.octets.specs.declared.Fault.{Fault}
+use Rattle.octets.specs.declared.Refusal.TheVariants.{CompressedFileNotSupported}
 use Rattle.octets.specs.declared.PointerSize.TheVariants.{Bits32, Bits64}
 use Rattle.octets.specs.Ascii.{ascii}
 use Rattle.octets.specs.Reader.{Reader, Outcome, run, same, stands}
@@ -55,12 +56,12 @@ module _ (s : List ℕ) (k : ℕ) (l : k ≤ length s) (b : HeaderBytes) (end : 
   unfolding run header_bytes
   magic-there = go (stands s 0 magic) refl e
     where
-      go : (t : Bool) → stands s 0 magic ≡ t → (elim t as (λ (c : Bool). Outcome HeaderBytes) [ true ↦ run edition s 7 | false ↦ fault (Refusal 1) ]) ≡ read b end
+      go : (t : Bool) → stands s 0 magic ≡ t → (elim t as (λ (c : Bool). Outcome HeaderBytes) [ true ↦ run edition s 7 | false ↦ fault (Fault.Refusal CompressedFileNotSupported) ]) ≡ read b end
           → (stands s 0 magic ≡ true) × (run edition s 7 ≡ read b end)
       go true t g = (t, g)
       go false t g = (cc, cc)
 
-  pub magic-cut : k < 7 → run header_bytes (take k s) 0 ≡ fault (Refusal 1)
+  pub magic-cut : k < 7 → run header_bytes (take k s) 0 ≡ fault (Fault.Refusal CompressedFileNotSupported)
   unfolding run header_bytes
   magic-cut m = failed _ _ (sym (stands-cut (take k s) 0 magic (λ z. absurd (omega arith)) (omega (arith, long))))
 

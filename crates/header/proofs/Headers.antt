@@ -5,13 +5,15 @@ use mathlib.Core.List.{List, [], ◌∷◌, ◌++◌}
 use mathlib.Core.Path.{◌≡◌, refl, sym, ◌∙◌, ap}
 use native.Mathlib.Omega.{arith}
 use lib.ListN.{length, take, drop, length-take}
+use Rattle.std.specs.Prelude.{Option, Some, None}
 use Rattle.octets.specs.declared.Endianness.{Endianness}
 use Rattle.octets.specs.declared.Endianness.TheVariants.{Little, Big}
 use Rattle.octets.specs.declared.Fault.{Fault}
-use Rattle.octets.specs.declared.Fault.TheVariants.{Cut, Refusal}
+use Rattle.octets.specs.declared.Fault.TheVariants.{Cut}
 use Rattle.octets.specs.declared.PointerSize.{PointerSize}
 use Rattle.octets.specs.declared.PointerSize.TheVariants.{Bits32, Bits64}
-use Rattle.octets.specs.declared.cursor.Begun.{Begun}
+use Rattle.octets.specs.declared.Refusal.TheVariants.{CompressedFileNotSupported}
+use Rattle.octets.specs.declared.cursor.Cursor.{Cursor}
 use Rattle.octets.specs.Ascii.{ascii}
 use Rattle.octets.specs.Cursor.{begun, part_of}
 use Rattle.octets.specs.Number.{tag}
@@ -26,25 +28,25 @@ use Rattle.header.specs.declared.Header.{Header}
 use Rattle.header.specs.declared.Version.{Version}
 use Rattle.header.specs.Header.{Part, parts, parts_length, with_pointer, with_order, with_unchecked, with_version, parts_read, untold, header_length, HeaderBytes, one_of, order_mark, pointer_mark, version_of, valued, legacy, new, header_bytes}
 use Rattle.header.specs.Header.Part.{pointer_size, byte_order, unchecked, version}
-use Rattle.header.specs.Helpers.{new_order}
+use Rattle.header.specs.Helpers.{version_length, ordered}
 use Rattle.octets.proofs.Going.{bytes_go, tag_goes}
 
 pub read_same : {A : Type 0} (a b : A) (next : ℕ) → a ≡ b → read a next ≡ read b next
 read_same {A} a b next e = ap (λ (c : A). read c next) e
 
 -- one of two marks, from what the cursor answered
-module _ {A : Type 0} (m : List ℕ) (x : A) (n : List ℕ) (y : A) (s : List ℕ) (at : ℕ) (b : Begun) (h : begun b ≡ run (begins m (done true) (done false)) s at) where
-  pub first-mark : b.there ≡ true → read x b.next.at ≡ run (one_of m x n y done) s at
+module _ {A : Type 0} (m : List ℕ) (x : A) (n : List ℕ) (y : A) (s : List ℕ) (at : ℕ) (c : Cursor) where
+  pub first-mark : (next : Cursor) → begun c (Some next) ≡ run (begins m (done true) (done false)) s at → read x next.at ≡ run (one_of m x n y done) s at
   unfolding run
-  first-mark t = sym (begins-there s at m (done x) (tag n (done y)) b h t)
+  first-mark next h = sym (begins-there s at m (done x) (tag n (done y)) c next h)
 
-  module _ (t : b.there ≡ false) where
+  module _ (h : begun c None ≡ run (begins m (done true) (done false)) s at) where
     pub second-mark : (next : ℕ) → ◌≡◌ {A = Outcome (Unit {0})} (read tt next) (run (tag n (done tt)) s at) → read y next ≡ run (one_of m x n y done) s at
     unfolding run
-    second-mark next k = sym (begins_not s at m (done x) (tag n (done y)) b h t ∙ tag-on s at n (done y) next k)
+    second-mark next k = sym (begins_not s at m (done x) (tag n (done y)) c h ∙ tag-on s at n (done y) next k)
 
     pub no-mark : (f : Fault) → ◌≡◌ {A = Outcome (Unit {0})} (fault f) (run (tag n (done tt)) s at) → fault f ≡ run (one_of m x n y done) s at
-    no-mark f k = sym (begins_not s at m (done x) (tag n (done y)) b h t ∙ tag-stops s at n (done y) f k)
+    no-mark f k = sym (begins_not s at m (done x) (tag n (done y)) c h ∙ tag-stops s at n (done y) f k)
 
 -- and then what goes by the mark
 module _ {A B : Type 0} (m : List ℕ) (x : A) (n : List ℕ) (y : A) (k : A → Reader B) (s : List ℕ) (at : ℕ) where
@@ -109,91 +111,80 @@ module _ (f : FileFormat) (p : PointerSize) (e : Endianness) (u s : List ℕ) (a
       go true = refl
       go false = refl
 
--- Legacy, after its pointer mark
-module _ (p : PointerSize) (s : List ℕ) (at : ℕ) where
+-- the last two parts, in either edition
+module _ (f : FileFormat) (p : PointerSize) (u s : List ℕ) (at : ℕ) where
   on-order : Endianness → Reader HeaderBytes
-  on-order e = last-part Legacy p e [] s at 3
+  on-order e = last-part f p e u s at (version_length f)
 
-  pub legacy-no-order : (x : Fault) → fault x ≡ run (order_mark done) s at → fault x ≡ valued (run (legacy p) s at)
-  unfolding legacy on-order last-part
-  legacy-no-order x h = sym (ap valued (one-stops (ascii "v") Little (ascii "V") Big on-order s at x h))
+  pub no-order : (x : Fault) → fault x ≡ run (order_mark done) s at → fault x ≡ valued (run (ordered f p u) s at)
+  unfolding ordered on-order last-part
+  no-order x h = sym (ap valued (one-stops (ascii "v") Little (ascii "V") Big on-order s at x h))
 
-  pub legacy-made : (e : Endianness) (next : ℕ) → read e next ≡ run (order_mark done) s at
-      → made Legacy p e (run (bytes 3 (λ v. done (version_of v))) s next) ≡ valued (run (legacy p) s at)
-  unfolding legacy on-order last-part
-  legacy-made e next h = sym (ap valued (one_on (ascii "v") Little (ascii "V") Big on-order s at e next h) ∙ version-made Legacy p e [] s next 3)
-
--- New, from its second pair of unchecked bytes on
-module _ (p : PointerSize) (a s : List ℕ) (at : ℕ) where
-  on-order-new : List ℕ → Endianness → Reader HeaderBytes
-  on-order-new b e = last-part New p e (a ++ b) s at 4
-
-  pub order-no-bytes : (x : Fault) → ◌≡◌ {A = Outcome (Unit {0})} (fault x) (run (bytes 2 (λ b. done tt)) s at) → fault x ≡ valued (run (new_order p a) s at)
-  unfolding new_order
-  order-no-bytes x h = sym (ap valued (bytes-stops s at 2 _ x h))
-
-  module _ (mark : ℕ) (h : ◌≡◌ {A = Outcome (Unit {0})} (read tt mark) (run (bytes 2 (λ b. done tt)) s at)) where
-    on-bytes : run (new_order p a) s at ≡ run (order_mark (on-order-new (take 2 (drop at s)))) s mark
-    unfolding on-order-new last-part new_order
-    on-bytes = (bytes_on s at 2 (λ b. order_mark (on-order-new b)) mark h).0
-
-    pub order-no-mark : (x : Fault) → fault x ≡ run (order_mark done) s mark → fault x ≡ valued (run (new_order p a) s at)
-    order-no-mark x g = sym (ap valued (on-bytes ∙ one-stops (ascii "v") Little (ascii "V") Big (on-order-new (take 2 (drop at s))) s mark x g))
-
-    pub order-made : (e : Endianness) (next : ℕ) → read e next ≡ run (order_mark done) s mark
-        → made New p e (run (bytes 4 (λ v. done (version_of v))) s next) ≡ valued (run (new_order p a) s at)
-    unfolding on-order-new last-part
-    order-made e next g =
-        sym (ap valued (on-bytes ∙ one_on (ascii "v") Little (ascii "V") Big (on-order-new (take 2 (drop at s))) s mark e next g) ∙ version-made New p e (a ++ take 2 (drop at s)) s next 4)
+  pub order-made : (e : Endianness) (next : ℕ) → read e next ≡ run (order_mark done) s at
+      → made f p e (run (bytes (version_length f) (λ v. done (version_of v))) s next) ≡ valued (run (ordered f p u) s at)
+  unfolding ordered on-order last-part
+  order-made e next h = sym (ap valued (one_on (ascii "v") Little (ascii "V") Big on-order s at e next h) ∙ version-made f p e u s next (version_length f))
 
 -- New, after the magic
 module _ (s : List ℕ) (at : ℕ) where
+  on-mark : List ℕ → PointerSize → Reader HeaderBytes
+  on-mark a p = bytes 2 (λ b. ordered New p (a ++ b))
+
   pub new-no-bytes : (x : Fault) → ◌≡◌ {A = Outcome (Unit {0})} (fault x) (run (bytes 2 (λ b. done tt)) s at) → fault x ≡ valued (run new s at)
-  unfolding new new_order
-  new-no-bytes x h = sym (ap valued (bytes-stops s at 2 (λ a. pointer_mark (λ p. new_order p a)) x h))
+  unfolding new ordered on-mark
+  new-no-bytes x h = sym (ap valued (bytes-stops s at 2 (λ a. pointer_mark (on-mark a)) x h))
 
   module _ (mark : ℕ) (h : ◌≡◌ {A = Outcome (Unit {0})} (read tt mark) (run (bytes 2 (λ b. done tt)) s at)) where
-    on-first : run new s at ≡ run (pointer_mark (λ p. new_order p (take 2 (drop at s)))) s mark
-    unfolding new new_order
-    on-first = (bytes_on s at 2 (λ a. pointer_mark (λ p. new_order p a)) mark h).0
+    on-first : run new s at ≡ run (pointer_mark (on-mark (take 2 (drop at s)))) s mark
+    unfolding new ordered on-mark
+    on-first = (bytes_on s at 2 (λ a. pointer_mark (on-mark a)) mark h).0
 
     pub new-no-mark : (x : Fault) → fault x ≡ run (pointer_mark done) s mark → fault x ≡ valued (run new s at)
-    new-no-mark x g = sym (ap valued (on-first ∙ one-stops (ascii "_") Bits32 (ascii "-") Bits64 (λ p. new_order p (take 2 (drop at s))) s mark x g))
+    new-no-mark x g = sym (ap valued (on-first ∙ one-stops (ascii "_") Bits32 (ascii "-") Bits64 (on-mark (take 2 (drop at s))) s mark x g))
 
-    pub new-made : (p : PointerSize) (next : ℕ) → read p next ≡ run (pointer_mark done) s mark
-        → (r : Outcome Header) → ((a : List ℕ) → r ≡ valued (run (new_order p a) s next)) → r ≡ valued (run new s at)
-    new-made p next g r k =
-        k (take 2 (drop at s)) ∙ sym (ap valued (on-first ∙ one_on (ascii "_") Bits32 (ascii "-") Bits64 (λ p. new_order p (take 2 (drop at s))) s mark p next g))
+    module _ (p : PointerSize) (next : ℕ) (g : read p next ≡ run (pointer_mark done) s mark) where
+      on-pointer : run new s at ≡ run (on-mark (take 2 (drop at s)) p) s next
+      on-pointer = on-first ∙ one_on (ascii "_") Bits32 (ascii "-") Bits64 (on-mark (take 2 (drop at s))) s mark p next g
+
+      pub new-cut : (x : Fault) → ◌≡◌ {A = Outcome (Unit {0})} (fault x) (run (bytes 2 (λ b. done tt)) s next) → fault x ≡ valued (run new s at)
+      unfolding on-mark
+      new-cut x k = sym (ap valued (on-pointer ∙ bytes-stops s next 2 (λ b. ordered New p (take 2 (drop at s) ++ b)) x k))
+
+      pub new-made : (last : ℕ) → ◌≡◌ {A = Outcome (Unit {0})} (read tt last) (run (bytes 2 (λ b. done tt)) s next)
+          → (r : Outcome Header) → ((u : List ℕ) → r ≡ valued (run (ordered New p u) s last)) → r ≡ valued (run new s at)
+      unfolding on-mark
+      new-made last k r w =
+          w (take 2 (drop at s) ++ take 2 (drop next s)) ∙ sym (ap valued (on-pointer ∙ (bytes_on s next 2 (λ b. ordered New p (take 2 (drop at s) ++ b)) last k).0))
 
 -- the whole, from what stands at its front
-module _ (s : List ℕ) (b : Begun) (h : begun b ≡ run (begins (ascii "BLENDER") (done true) (done false)) s 0) where
+module _ (s : List ℕ) (start : Cursor) (o : Option Cursor) (h : begun start o ≡ run (begins (ascii "BLENDER") (done true) (done false)) s 0) where
   after-magic : Reader HeaderBytes
   after-magic = begins (ascii "_") (legacy Bits32) (begins (ascii "-") (legacy Bits64) new)
 
-  pub no-magic : b.there ≡ false → fault (Refusal 1) ≡ valued (run header_bytes s 0)
+  pub no-magic : o ≡ None → fault (Fault.Refusal CompressedFileNotSupported) ≡ valued (run header_bytes s 0)
   unfolding header_bytes run after-magic
-  no-magic t = sym (ap valued (begins_not s 0 (ascii "BLENDER") after-magic (refuse 1) b h t))
+  no-magic t = sym (ap valued (begins_not s 0 (ascii "BLENDER") after-magic (refuse CompressedFileNotSupported) start (ap (begun start) (sym t) ∙ h)))
 
-  module _ (t : b.there ≡ true) where
-    on-magic : run header_bytes s 0 ≡ run after-magic s b.next.at
+  module _ (c : Cursor) (t : o ≡ Some c) where
+    on-magic : run header_bytes s 0 ≡ run after-magic s c.at
     unfolding header_bytes after-magic
-    on-magic = begins-there s 0 (ascii "BLENDER") after-magic (refuse 1) b h t
+    on-magic = begins-there s 0 (ascii "BLENDER") after-magic (refuse CompressedFileNotSupported) start c (ap (begun start) (sym t) ∙ h)
 
-    module _ (c : Begun) (g : begun c ≡ run (begins (ascii "_") (done true) (done false)) s b.next.at) where
-      pub header-short : c.there ≡ true → valued (run (legacy Bits32) s c.next.at) ≡ valued (run header_bytes s 0)
+    pub header-short : (next : Cursor) → begun c (Some next) ≡ run (begins (ascii "_") (done true) (done false)) s c.at → valued (run (ordered Legacy Bits32 []) s next.at) ≡ valued (run header_bytes s 0)
+    unfolding after-magic legacy ordered
+    header-short next g = sym (ap valued (on-magic ∙ begins-there s _ (ascii "_") (legacy Bits32) (begins (ascii "-") (legacy Bits64) new) c next g))
+
+    module _ (g : begun c None ≡ run (begins (ascii "_") (done true) (done false)) s c.at) where
+      on-short : run header_bytes s 0 ≡ run (begins (ascii "-") (legacy Bits64) new) s c.at
       unfolding after-magic
-      header-short u = sym (ap valued (on-magic ∙ begins-there s _ (ascii "_") (legacy Bits32) (begins (ascii "-") (legacy Bits64) new) c g u))
+      on-short = on-magic ∙ begins_not s _ (ascii "_") (legacy Bits32) (begins (ascii "-") (legacy Bits64) new) c g
 
-      module _ (u : c.there ≡ false) (d : Begun) (k : begun d ≡ run (begins (ascii "-") (done true) (done false)) s b.next.at) where
-        on-short : run header_bytes s 0 ≡ run (begins (ascii "-") (legacy Bits64) new) s b.next.at
-        unfolding after-magic
-        on-short = on-magic ∙ begins_not s _ (ascii "_") (legacy Bits32) (begins (ascii "-") (legacy Bits64) new) c g u
+      pub header-long : (next : Cursor) → begun c (Some next) ≡ run (begins (ascii "-") (done true) (done false)) s c.at → valued (run (ordered Legacy Bits64 []) s next.at) ≡ valued (run header_bytes s 0)
+      unfolding legacy ordered
+      header-long next k = sym (ap valued (on-short ∙ begins-there s _ (ascii "-") (legacy Bits64) new c next k))
 
-        pub header-long : d.there ≡ true → valued (run (legacy Bits64) s d.next.at) ≡ valued (run header_bytes s 0)
-        header-long v = sym (ap valued (on-short ∙ begins-there s _ (ascii "-") (legacy Bits64) new d k v))
-
-        pub header-new : d.there ≡ false → valued (run new s b.next.at) ≡ valued (run header_bytes s 0)
-        header-new v = sym (ap valued (on-short ∙ begins_not s _ (ascii "-") (legacy Bits64) new d k v))
+      pub header-new : begun c None ≡ run (begins (ascii "-") (done true) (done false)) s c.at → valued (run new s c.at) ≡ valued (run header_bytes s 0)
+      header-new k = sym (ap valued (on-short ∙ begins_not s _ (ascii "-") (legacy Bits64) new c k))
 
 -- How far a header goes: each part is as long as it says.
 one_goes : {A B : Type 0} (m : List ℕ) (x : A) (n : List ℕ) (y : A) (k : A → Reader B) (s : List ℕ) (at : ℕ) (b : B) (next : ℕ) → length n ≡ length m
@@ -256,7 +247,7 @@ header_length_lem s b next h = magic (stands s 0 (ascii "BLENDER")) refl
     magic : (t : Bool) → stands s 0 (ascii "BLENDER") ≡ t → next ≡ header_length b.format
     magic true u =
         short (stands s 7 (ascii "_")) refl
-        (sym (begins_in (ascii "BLENDER") (begins (ascii "_") (legacy Bits32) (begins (ascii "-") (legacy Bits64) new)) (refuse 1) s 0 u) ∙ h)
+        (sym (begins_in (ascii "BLENDER") (begins (ascii "_") (legacy Bits32) (begins (ascii "-") (legacy Bits64) new)) (refuse CompressedFileNotSupported) s 0 u) ∙ h)
     magic false u =
-        let g : fault (Refusal 1) ≡ read b next = sym (begins-out (ascii "BLENDER") (begins (ascii "_") (legacy Bits32) (begins (ascii "-") (legacy Bits64) new)) (refuse 1) s 0 u) ∙ h in
+        let g : fault (Fault.Refusal CompressedFileNotSupported) ≡ read b next = sym (begins-out (ascii "BLENDER") (begins (ascii "_") (legacy Bits32) (begins (ascii "-") (legacy Bits64) new)) (refuse CompressedFileNotSupported) s 0 u) ∙ h in
         cc

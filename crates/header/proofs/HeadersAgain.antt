@@ -10,11 +10,12 @@ use borrow.Author.Tests.{leb-true, le-leb}
 use lib.Dec.{leb}
 use lib.ListN.{length}
 use lib.Seq.{append_snoc}
+use Rattle.octets.specs.declared.Fault.{Fault}
+use Rattle.octets.specs.declared.Refusal.TheVariants.{CompressedFileNotSupported}
 use Rattle.octets.specs.declared.Endianness.{Endianness}
 use Rattle.octets.specs.declared.Endianness.TheVariants.{Little, Big}
 use Rattle.octets.specs.declared.PointerSize.{PointerSize}
 use Rattle.octets.specs.declared.PointerSize.TheVariants.{Bits32, Bits64}
-use Rattle.octets.specs.declared.Fault.TheVariants.{Refusal}
 use Rattle.octets.specs.Ascii.{ascii, is_digit}
 use Rattle.octets.specs.Looks.{part}
 use Rattle.octets.specs.Number.{tag}
@@ -127,9 +128,9 @@ module _ (s : List ℕ) (b : HeaderBytes) (next : ℕ) where
       short m false u g = long m (stands s 7 (ascii "-")) refl (sym (begins-out (ascii "_") (legacy Bits32) (begins (ascii "-") (legacy Bits64) new) s 7 u) ∙ g)
 
       first : (t : Bool) → stands s 0 magic ≡ t → LegacyRead s b
-      first true u = short (same-eq _ _ u) (stands s 7 (ascii "_")) refl (sym (begins_in magic either (refuse 1) s 0 u) ∙ h)
+      first true u = short (same-eq _ _ u) (stands s 7 (ascii "_")) refl (sym (begins_in magic either (refuse CompressedFileNotSupported) s 0 u) ∙ h)
       first false u =
-          let g : fault (Refusal 1) ≡ read b next = sym (begins-out magic either (refuse 1) s 0 u) ∙ h in
+          let g : fault (Fault.Refusal CompressedFileNotSupported) ≡ read b next = sym (begins-out magic either (refuse CompressedFileNotSupported) s 0 u) ∙ h in
           let z : ◌≡◌ {A = ℕ} 0 1 = cc in
           absurd (omega arith)
 

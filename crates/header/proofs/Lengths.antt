@@ -19,17 +19,6 @@ widths-same New p d e = refl
 pub layout-length : (h : Header) → block_header_length h.format h.pointer_size ≡ 4 + widths (layout h)
 layout-length h = ap (λ (n : ℕ). 4 + n) (widths-same h.format (pointer_bytes h.pointer_size) _ h.endianness)
 
--- each edition's bytes beside its address
-pub pointer-le : (p : PointerSize) (n : ℕ) → n ≡ pointer_bytes p → n ≤ 8
-pointer-le Bits32 n e = omega arith
-pointer-le Bits64 n e = omega arith
-
-pub legacy-length : (f : FileFormat) (p : PointerSize) (n : ℕ) → f ≡ Legacy → n ≡ pointer_bytes p → 16 + n ≡ block_header_length f p
-legacy-length f p n e h = rw (e, h) (omega arith)
-
-pub new-length : (f : FileFormat) (p : PointerSize) (n : ℕ) → f ≡ New → n ≡ pointer_bytes p → 24 + n ≡ block_header_length f p
-new-length f p n e h = rw (e, h) (omega arith)
-
 -- no block header is shorter than 20 bytes, or longer than 32
 pub header_at-least : (f : FileFormat) (p : PointerSize) → 20 ≤ block_header_length f p
 header_at-least Legacy Bits32 = omega arith

@@ -2,24 +2,23 @@
 use Prim.Native.Nat.{ℕ}
 use mathlib.Core.List.{[], ◌∷◌}
 use mathlib.Core.Path.{◌≡◌, refl, sym, ◌∙◌, ap}
+use Rattle.std.specs.Prelude.{Result, Ok, Err}
 use Rattle.octets.specs.declared.Endianness.{Endianness}
 use Rattle.octets.specs.declared.Endianness.TheVariants.{Little, Big}
 use Rattle.octets.specs.declared.Fault.{Fault}
 use Rattle.octets.specs.declared.PointerSize.{PointerSize}
 use Rattle.octets.specs.declared.PointerSize.TheVariants.{Bits32, Bits64}
+use Rattle.octets.specs.declared.cursor.Cursor.{Cursor}
+use Rattle.octets.specs.Cursor.{found}
 use Rattle.octets.specs.PointerSize.{pointer_bytes}
 use Rattle.octets.specs.Reader.{Outcome}
 use Rattle.octets.specs.Reader.Outcome.{read, fault}
-use Rattle.octets.proofs.Lossless.{at_one, whole-fault, whole-told}
+use Rattle.octets.proofs.Lossless.{whole-fault, whole-told, whole-found}
 use Rattle.header.specs.declared.FileFormat.{FileFormat}
 use Rattle.header.specs.declared.FileFormat.TheVariants.{Legacy, New}
 use Rattle.header.specs.declared.Header.{Header}
 use Rattle.header.specs.declared.Version.{Version}
-use Rattle.header.specs.declared.blend.PointerSizeRead.{PointerSizeRead}
-use Rattle.header.specs.declared.blend.EndiannessRead.{EndiannessRead}
-use Rattle.header.specs.declared.blend.VersionRead.{VersionRead}
-use Rattle.header.specs.declared.blend.HeaderAnswer.{HeaderAnswer}
-use Rattle.header.specs.Header.{pointer_size_read, endianness_read, version_read, edition, order, header_as, paper_header, paper_pointer_size, paper_endianness, paper_version}
+use Rattle.header.specs.Header.{edition, order, header_as, paper_header, paper_pointer_size, paper_endianness, paper_version}
 
 edition-one : (f g : FileFormat) → edition f ≡ edition g → f ≡ g
 edition-one Legacy Legacy e = refl
@@ -52,37 +51,18 @@ header-one h k a b c d e =
     ∙ ap (λ (x : ℕ). record { pointer_size = k.pointer_size; endianness = k.endianness; version = record { major = x; minor = h.version.minor }; format = k.format }) d
     ∙ ap (λ (x : ℕ). record { pointer_size = k.pointer_size; endianness = k.endianness; version = record { major = k.version.major; minor = x }; format = k.format }) e
 
--- what the reads of a header's parts answer
-pub whole-pointer_size : (a b : PointerSizeRead) → pointer_size_read a ≡ pointer_size_read b → a ≡ b
-whole-pointer_size (PointerSizeRead.Is x y) (PointerSizeRead.Is x' y') h = cc (at_one y y' (cc))
-whole-pointer_size (PointerSizeRead.Is x y) (PointerSizeRead.Stopped x') h = cc
-whole-pointer_size (PointerSizeRead.Stopped x) (PointerSizeRead.Is x' y') h = cc
-whole-pointer_size (PointerSizeRead.Stopped x) (PointerSizeRead.Stopped x') h = cc
-
-pub whole-endianness : (a b : EndiannessRead) → endianness_read a ≡ endianness_read b → a ≡ b
-whole-endianness (EndiannessRead.Is x y) (EndiannessRead.Is x' y') h = cc (at_one y y' (cc))
-whole-endianness (EndiannessRead.Is x y) (EndiannessRead.Stopped x') h = cc
-whole-endianness (EndiannessRead.Stopped x) (EndiannessRead.Is x' y') h = cc
-whole-endianness (EndiannessRead.Stopped x) (EndiannessRead.Stopped x') h = cc
-
-pub whole-version : (a b : VersionRead) → version_read a ≡ version_read b → a ≡ b
-whole-version (VersionRead.Is x y) (VersionRead.Is x' y') h = cc (at_one y y' (cc))
-whole-version (VersionRead.Is x y) (VersionRead.Stopped x') h = cc
-whole-version (VersionRead.Stopped x) (VersionRead.Is x' y') h = cc
-whole-version (VersionRead.Stopped x) (VersionRead.Stopped x') h = cc
-
 -- the header's answer, and what the tree found where it is known
-pub whole-header : (a b : HeaderAnswer) → paper_header a ≡ paper_header b → a ≡ b
-whole-header (HeaderAnswer.Is h n) (HeaderAnswer.Is k m) e = cc (header-one h k (cc) (cc) (cc) (cc) (cc))
-whole-header (HeaderAnswer.Is h n) (HeaderAnswer.Refused m) e = cc
-whole-header (HeaderAnswer.Refused n) (HeaderAnswer.Is k m) e = cc
-whole-header (HeaderAnswer.Refused x) (HeaderAnswer.Refused y) e = ap HeaderAnswer.Refused (whole-fault x y e)
+pub whole-header : (a b : Result (Header × ℕ) Fault) → paper_header a ≡ paper_header b → a ≡ b
+whole-header (Ok (h, n)) (Ok (k, m)) e = cc (header-one h k (cc) (cc) (cc) (cc) (cc))
+whole-header (Ok (h, n)) (Err m) e = cc
+whole-header (Err n) (Ok (k, m)) e = cc
+whole-header (Err x) (Err y) e = ap Err (whole-fault x y e)
 
-pub header_known : (h : Header) (at : ℕ) (o : Outcome Header) → paper_header (HeaderAnswer.Is h at) ≡ header_as o → o ≡ read h at
+pub header_known : (h : Header) (at : ℕ) (o : Outcome Header) → paper_header (Ok (h, at)) ≡ header_as o → o ≡ read h at
 header_known h at (read k m) e = cc (header-one h k (cc) (cc) (cc) (cc) (cc))
 header_known h at (fault x) e = cc
 
-pub header_refused : (x : Fault) (o : Outcome Header) → paper_header (HeaderAnswer.Refused x) ≡ header_as o → o ≡ fault x
+pub header_refused : (x : Fault) (o : Outcome Header) → paper_header (Err x) ≡ header_as o → o ≡ fault x
 header_refused x (read k m) e = cc
 header_refused x (fault y) e =
     let stop : Fault → Outcome Header = fault in
@@ -101,11 +81,11 @@ one-version v w e =
     let b : v.minor ≡ w.minor = cc in
     ap (λ (n : ℕ). record { major = n; minor = v.minor }) a ∙ ap (λ (n : ℕ). record { major = w.major; minor = n }) b
 
-pub paper_pointer_size_lem : (a b : PointerSizeRead) → paper_pointer_size a ≡ paper_pointer_size b → a ≡ b
-paper_pointer_size_lem a b e = whole-pointer_size a b (whole-told (λ p. pointer_bytes p ∷ []) one_pointer (pointer_size_read a) (pointer_size_read b) e)
+pub paper_pointer_size_lem : (a b : Result (PointerSize × Cursor) Fault) → paper_pointer_size a ≡ paper_pointer_size b → a ≡ b
+paper_pointer_size_lem a b e = whole-found a b (whole-told (λ p. pointer_bytes p ∷ []) one_pointer (found a) (found b) e)
 
-pub paper_endianness_lem : (a b : EndiannessRead) → paper_endianness a ≡ paper_endianness b → a ≡ b
-paper_endianness_lem a b e = whole-endianness a b (whole-told (λ o. order o ∷ []) one-order (endianness_read a) (endianness_read b) e)
+pub paper_endianness_lem : (a b : Result (Endianness × Cursor) Fault) → paper_endianness a ≡ paper_endianness b → a ≡ b
+paper_endianness_lem a b e = whole-found a b (whole-told (λ o. order o ∷ []) one-order (found a) (found b) e)
 
-pub paper_version_lem : (a b : VersionRead) → paper_version a ≡ paper_version b → a ≡ b
-paper_version_lem a b e = whole-version a b (whole-told (λ v. v.major ∷ v.minor ∷ []) one-version (version_read a) (version_read b) e)
+pub paper_version_lem : (a b : Result (Version × Cursor) Fault) → paper_version a ≡ paper_version b → a ≡ b
+paper_version_lem a b e = whole-found a b (whole-told (λ v. v.major ∷ v.minor ∷ []) one-version (found a) (found b) e)

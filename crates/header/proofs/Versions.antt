@@ -1,11 +1,11 @@
 -- Laws of version digits: one byte more.
 use Prim.Native.Char.{code}
-use Prim.Native.Nat.{ℕ, zero, suc, ◌+◌, ◌*◌, ◌-◌, ◌^◌, ◌≤◌, ◌<◌}
+use Prim.Native.Nat.{ℕ, suc, ◌+◌, ◌*◌, ◌-◌, ◌^◌, ◌≤◌, ◌<◌}
 use mathlib.Core.Bool.{Bool, true, false, ◌&&◌}
 use mathlib.Core.List.{List, [], ◌∷◌}
 use mathlib.Core.Path.{◌≡◌, refl, sym, ◌∙◌, ap}
 use native.Mathlib.Omega.{arith}
-use borrow.Author.Tests.{le-leb, lt-leb, leb-true}
+use borrow.Author.Tests.{le-leb, leb-true}
 use lib.Dec.{leb}
 use lib.ListN.{length, drop, get_or, drop_of_length-le}
 use lib.Seq.{drop-cons}
@@ -14,22 +14,8 @@ use Rattle.octets.proofs.Tests.{held, failed}
 use Rattle.header.specs.Header.{decimal}
 
 module _ (n b : ℕ) where
-  low : b < code "0" → is_digit b ≡ false
-  low h = ap (λ (t : Bool). t && leb b (code "9")) (lt-leb _ _ h)
-
-  high : code "0" ≤ b → code "9" < b → is_digit b ≡ false
-  high h k = ap (λ (t : Bool). t && leb b (code "9")) (le-leb _ _ h) ∙ lt-leb _ _ k
-
   digit : code "0" ≤ b → b ≤ code "9" → is_digit b ≡ true
   digit h k = ap (λ (t : Bool). t && leb b (code "9")) (le-leb _ _ h) ∙ le-leb _ _ k
-
-  pub too_low : b < code "0" → n ≡ decimal n (b ∷ [])
-  unfolding decimal
-  too_low h = sym (failed _ _ (low h))
-
-  pub too_high : code "0" ≤ b → code "9" < b → n ≡ decimal n (b ∷ [])
-  unfolding decimal
-  too_high h k = sym (failed _ _ (high h k))
 
   pub one-digit : code "0" ≤ b → b ≤ code "9" → n * 10 + (b - code "0") ≡ decimal n (b ∷ [])
   unfolding decimal
@@ -69,13 +55,6 @@ decimal_more n l i r h q =
 pub decimal-last : (n : ℕ) (l : List ℕ) (i : ℕ) → length l ≤ i → decimal n (drop i l) ≡ n
 unfolding decimal
 decimal-last n l i h = ap (decimal n) (drop_of_length-le l h)
-
-pub thousand : (i n : ℕ) → i < 4 → n < 10 ^ i → n < 1000
-thousand zero n h k = omega arith
-thousand (suc zero) n h k = omega arith
-thousand (suc (suc zero)) n h k = omega arith
-thousand (suc (suc (suc zero))) n h k = omega arith
-thousand (suc (suc (suc (suc i)))) n h k = absurd (omega arith)
 
 pub bounded : (i n b r : ℕ) → r ≡ decimal n (b ∷ []) → n < 10 ^ i → r < 10 ^ (i + 1)
 bounded i n b r e h =

@@ -1,13 +1,15 @@
 -- Header: one reading tree over a file's first bytes, and the value that is made of the bytes that the tree read.
 use Prim.Native.Char.{code}
-use Rattle.std.specs.Prelude.{ℕ, ◌+◌, ◌*◌, ◌-◌, ◌/◌, ◌%◌, true, false, List, [], ◌∷◌, ◌++◌, length, drop}
+use Rattle.std.specs.Prelude.{ℕ, ◌+◌, ◌*◌, ◌-◌, ◌/◌, ◌%◌, true, false, List, [], ◌∷◌, ◌++◌, length, drop, Option, Some, None, Result, Ok, Err}
 use Rattle.octets.specs.declared.Endianness.{Endianness}
 use Rattle.octets.specs.declared.Endianness.TheVariants.{Little, Big}
 use Rattle.octets.specs.declared.Fault.{Fault}
-use Rattle.octets.specs.declared.Fault.TheVariants.{Refusal}
 use Rattle.octets.specs.declared.PointerSize.{PointerSize}
 use Rattle.octets.specs.declared.PointerSize.TheVariants.{Bits32, Bits64}
+use Rattle.octets.specs.declared.Refusal.TheVariants.{CompressedFileNotSupported}
+use Rattle.octets.specs.declared.cursor.Cursor.{Cursor}
 use Rattle.octets.specs.Ascii.{ascii, is_digit}
+use Rattle.octets.specs.Cursor.{found}
 use Rattle.octets.specs.Number.{tag}
 use Rattle.octets.specs.Paper.{Paper}
 use Rattle.octets.specs.Paper.Paper.{accepts}
@@ -15,15 +17,11 @@ use Rattle.octets.specs.PointerSize.{pointer_bytes}
 use Rattle.octets.specs.Reader.{Reader, Outcome}
 use Rattle.octets.specs.Reader.Reader.{done, refuse, bytes, begins}
 use Rattle.octets.specs.Reader.Outcome.{read, fault}
-use Rattle.octets.specs.Refusals.{compressed_file_not_supported, paper_fault, told}
+use Rattle.octets.specs.Refusals.{paper_fault, told}
 use Rattle.header.specs.declared.FileFormat.{FileFormat}
 use Rattle.header.specs.declared.FileFormat.TheVariants.{Legacy, New}
 use Rattle.header.specs.declared.Version.{Version}
 use Rattle.header.specs.declared.Header.{Header}
-use Rattle.header.specs.declared.blend.PointerSizeRead.{PointerSizeRead}
-use Rattle.header.specs.declared.blend.EndiannessRead.{EndiannessRead}
-use Rattle.header.specs.declared.blend.VersionRead.{VersionRead}
-use Rattle.header.specs.declared.blend.HeaderAnswer.{HeaderAnswer}
 
 -- Version: the ASCII digits among the version bytes, read in decimal. `n` is what was read so far.
 unfoldable pub decimal : ℕ → List ℕ → ℕ
@@ -123,7 +121,7 @@ new = parts_read (parts New) (untold New Bits32)
 -- what `pointer_mark` says, the file is Legacy, otherwise New.
 unfoldable pub header_bytes : Reader HeaderBytes
 unfolding legacy new
-header_bytes = begins magic (begins (ascii "_") (legacy Bits32) (begins (ascii "-") (legacy Bits64) new)) (refuse compressed_file_not_supported)
+header_bytes = begins magic (begins (ascii "_") (legacy Bits32) (begins (ascii "-") (legacy Bits64) new)) (refuse CompressedFileNotSupported)
 
 -- the value that is made of a header's bytes, and of what the tree found
 abbrev pub header_of : HeaderBytes → Header
@@ -132,19 +130,6 @@ header_of b = record { pointer_size = b.pointer; endianness = b.order; version =
 abbrev pub valued : Outcome HeaderBytes → Outcome Header
 valued (read b next) = read (header_of b) next
 valued (fault f) = fault f
-
--- What the reads of a header's parts answer, in the terms of the reading trees.
-abbrev pub pointer_size_read : PointerSizeRead → Outcome PointerSize
-pointer_size_read (PointerSizeRead.Is p c) = read p c.at
-pointer_size_read (PointerSizeRead.Stopped f) = fault f
-
-abbrev pub endianness_read : EndiannessRead → Outcome Endianness
-endianness_read (EndiannessRead.Is e c) = read e c.at
-endianness_read (EndiannessRead.Stopped f) = fault f
-
-abbrev pub version_read : VersionRead → Outcome Version
-version_read (VersionRead.Is v c) = read v c.at
-version_read (VersionRead.Stopped f) = fault f
 
 -- What `header` answers: on paper, edition (0 legacy, 1 new), pointer bytes, order (0 little, 1 big), major and minor; and the header's length.
 abbrev pub edition : FileFormat → ℕ
@@ -161,21 +146,21 @@ header_numbers h = edition h.format ∷ pointer_bytes h.pointer_size ∷ order h
 abbrev pub header_as : Outcome Header → Paper
 header_as o = told header_numbers o
 
-abbrev pub paper_header : HeaderAnswer → Paper
-paper_header (HeaderAnswer.Is h at) = accepts 0 (header_numbers h ++ (at ∷ []))
-paper_header (HeaderAnswer.Refused f) = paper_fault f
+abbrev pub paper_header : Result (Header × ℕ) Fault → Paper
+paper_header (Ok (h, at)) = accepts 0 (header_numbers h ++ (at ∷ []))
+paper_header (Err f) = paper_fault f
 
 -- the papers of the answers about its parts: the pointer's bytes, the order, and major and minor
-abbrev pub paper_pointer_size : PointerSizeRead → Paper
-paper_pointer_size r = told (λ p. pointer_bytes p ∷ []) (pointer_size_read r)
+abbrev pub paper_pointer_size : Result (PointerSize × Cursor) Fault → Paper
+paper_pointer_size r = told (λ p. pointer_bytes p ∷ []) (found r)
 
-abbrev pub paper_endianness : EndiannessRead → Paper
-paper_endianness r = told (λ e. order e ∷ []) (endianness_read r)
+abbrev pub paper_endianness : Result (Endianness × Cursor) Fault → Paper
+paper_endianness r = told (λ e. order e ∷ []) (found r)
 
-abbrev pub paper_version : VersionRead → Paper
-paper_version r = told (λ v. v.major ∷ v.minor ∷ []) (version_read r)
+abbrev pub paper_version : Result (Version × Cursor) Fault → Paper
+paper_version r = told (λ v. v.major ∷ v.minor ∷ []) (found r)
 
--- why a header is refused, and where; the refusal 0, which no call gives, where it is not
-abbrev pub fault_of : HeaderAnswer → Fault
-fault_of (HeaderAnswer.Is h at) = Refusal 0
-fault_of (HeaderAnswer.Refused f) = f
+-- why a header is refused, and where; nothing where it is not
+abbrev pub fault_of : Result (Header × ℕ) Fault → Option Fault
+fault_of (Ok (h, at)) = None
+fault_of (Err f) = Some f

@@ -1,19 +1,19 @@
--- What inner functions ensure, and how the answers of reads stand to the rules. No rule uses it.
-use Rattle.std.specs.Prelude.{ℕ, List, drop}
+-- What inner functions ensure. No rule uses it.
+use Rattle.std.specs.Prelude.{ℕ, List, [], ◌∷◌}
+use Rattle.octets.specs.declared.Endianness.TheVariants.{Little}
 use Rattle.octets.specs.declared.PointerSize.{PointerSize}
-use Rattle.octets.specs.Reader.{Reader, Outcome}
-use Rattle.octets.specs.Reader.Outcome.{read, fault}
-use Rattle.header.specs.declared.FileFormat.TheVariants.{New}
-use Rattle.header.specs.declared.Header.{Header}
-use Rattle.header.specs.declared.blend.HeaderRead.{HeaderRead}
-use Rattle.header.specs.Header.{HeaderBytes, parts, parts_read, with_unchecked, untold}
+use Rattle.octets.specs.Reader.{Reader}
+use Rattle.header.specs.declared.FileFormat.{FileFormat}
+use Rattle.header.specs.declared.FileFormat.TheVariants.{Legacy, New}
+use Rattle.header.specs.Header.Part.{byte_order, version}
+use Rattle.header.specs.Header.{HeaderBytes, parts_read}
 
--- What a read answers, in the terms of the reading trees.
-abbrev pub header_read : HeaderRead → Outcome Header
-header_read (HeaderRead.Is h c) = read h c.at
-header_read (HeaderRead.Stopped f) = fault f
+-- how many bytes a version has
+abbrev pub version_length : FileFormat → ℕ
+version_length Legacy = 3
+version_length New = 4
 
--- a New header from its second pair of unchecked bytes on; `a` is the first pair
-unfoldable pub new_order : PointerSize → List ℕ → Reader HeaderBytes
+-- a header's last two parts, the order mark and the version; `u` are the unchecked bytes before them
+unfoldable pub ordered : FileFormat → PointerSize → List ℕ → Reader HeaderBytes
 unfolding parts_read
-new_order p a = parts_read (drop 2 (parts New)) (with_unchecked (untold New p) a)
+ordered f p u = parts_read (byte_order ∷ version (version_length f) ∷ []) (record { format = f; pointer = p; order = Little; unchecked = u; version = [] })

@@ -5,12 +5,14 @@ pub mod blend;
 
 ghost use Rattle.std.specs.Prelude.{◌≡◌, ◌≤◌, ◌<◌, length, [], ◌∷◌};
 ghost use Rattle.header.specs.Header as headers;
+ghost use Rattle.header.specs.Helpers.{version_length};
 ghost use Rattle.header.specs.Calls as calls;
 
 use octets::{Endianness, PointerSize};
+use std::fmt;
 
 /// The on-disk layout of a blend file.
-#[derive(Clone, Copy)]
+#[derive(Clone, Copy, Debug, PartialEq, Eq)]
 pub enum FileFormat {
     /// Pre-5.0 format: 12-byte file header and a block header of
     /// `code(4) + size(u32) + address(ptr) + sdna_index(u32) + count(u32)`.
@@ -44,6 +46,17 @@ impl FileFormat {
         }
     }
 
+    // The bytes of a header's version.
+    pub(crate) fn version_len(self) -> usize
+        ensures fact { result ≡ version_length self }
+        ensures few { result ≤ 4 }
+    {
+        match self {
+            FileFormat::Legacy => 3,
+            FileFormat::New => 4,
+        }
+    }
+
     /// Returns the length of a block header in bytes: 20, 24, 28 or 32.
     pub fn block_header_len(self, pointer_size: PointerSize) -> usize
         ensures fact { calls.FileFormat::block_header_len self pointer_size result }
@@ -56,8 +69,17 @@ impl FileFormat {
     }
 }
 
+impl fmt::Display for FileFormat {
+    fn fmt<W: fmt::Write>(&self, f: &mut fmt::Formatter<W>) -> fmt::Result {
+        match self {
+            FileFormat::Legacy => write!(f, "legacy"),
+            FileFormat::New => write!(f, "new"),
+        }
+    }
+}
+
 /// The version of Blender used to save the blend file.
-#[derive(Clone, Copy)]
+#[derive(Clone, Copy, Debug, PartialEq, Eq)]
 pub struct Version {
     pub major: u16,
     pub minor: u16,
@@ -70,10 +92,8 @@ impl Version {
         ensures { result ≡ headers.version_of digits.now }
     {
         let mut combined: u16 = 0;
-        let mut i = 0;
-        while i < digits.len() {
-            combined = with_digit(combined, digits[i]);
-            i += 1;
+        for d in digits {
+            combined = with_digit(combined, *d);
         }
         Version {
             major: combined / 100,
@@ -82,22 +102,28 @@ impl Version {
     }
 }
 
+// As the Rust has it: major, a dot, minor.
+impl fmt::Display for Version {
+    fn fmt<W: fmt::Write>(&self, f: &mut fmt::Formatter<W>) -> fmt::Result {
+        write!(f, "{}.{}", self.major, self.minor)
+    }
+}
+
 // A number with one decimal digit more, or the same where the byte is none.
+#[tactic(auto, unfolding(crate::specs::Header::decimal))]
 fn with_digit(n: u16, b: u8) -> u16
     requires { n < 1000 }
     ensures { result ≡ headers.decimal n (b ∷ []) }
 {
-    if b < b'0' {
-        return n;
+    if b.is_ascii_digit() {
+        n * 10 + u16::from(b - b'0')
+    } else {
+        n
     }
-    if b'9' < b {
-        return n;
-    }
-    n * 10 + ((b - b'0') as u16)
 }
 
 /// What the header of a file says.
-#[derive(Clone, Copy)]
+#[derive(Clone, Copy, Debug, PartialEq, Eq)]
 pub struct Header {
     /// The size of the pointer on the machine used to save the blend file.
     pub pointer_size: PointerSize,
@@ -125,5 +151,16 @@ impl Header {
             version,
             format,
         }
+    }
+}
+
+// Edition, pointer bits, order, major and minor.
+impl fmt::Display for Header {
+    fn fmt<W: fmt::Write>(&self, f: &mut fmt::Formatter<W>) -> fmt::Result {
+        write!(
+            f,
+            "{} {} {} {} {}",
+            self.format, self.pointer_size, self.endianness, self.version.major, self.version.minor
+        )
     }
 }

@@ -1,21 +1,11 @@
 -- What a test that holds, or fails, says of the search's answer, in the form in which a walk has a test.
-use mathlib.Core.Path.{◌≡◌, refl, sym, ◌∙◌}
+use mathlib.Core.Path.{◌≡◌, sym, ◌∙◌}
 use Prim.Native.Nat.{ℕ, ◌+◌, ◌-◌, ◌≤◌, ◌<◌}
-use mathlib.Core.Bool.{Bool, true, false, not}
-use lib.Dec.{T}
+use mathlib.Core.Bool.{Bool, true, false}
 use Rattle.octets.specs.Paper.{Paper}
 use Rattle.octets.proofs.Tests.{held, failed}
 use Rattle.runtime.specs.Addresses.{found, missing, seek}
 use Rattle.runtime.proofs.Views.{seek-turn, seek-over, seek-starts}
-
--- a test as a walk has it
-pub holds : (t : Bool) → T t → t ≡ true
-holds true h = refl
-holds false h = absurd h
-
-pub fails : (t : Bool) → T (not t) → t ≡ false
-fails true h = absurd h
-fails false h = refl
 
 pub yes : {t : Bool} (x y : Paper) → t ≡ true → x ≡ (elim t as (λ (b : Bool). Paper) [ true ↦ x | false ↦ y ])
 yes x y e = sym (held x y e)

@@ -5,12 +5,12 @@
 ghost use Rattle.held.specs.Calls as calls;
 
 use block::Row;
-use octets::Fault;
+use octets::Refusal;
 use runtime::runtime::{Pointer, matches};
 use walker::{Place, Step};
 
 /// A walk that holds its file: the file and the place in it.
-#[derive(Clone, Copy)]
+#[derive(Clone, Copy, Debug, PartialEq, Eq)]
 pub struct Walker<'a> {
     pub file: &'a [u8],
     pub place: Place,
@@ -65,27 +65,25 @@ pub fn row_is(row: Row, address: u64) -> bool
 }
 
 /// The first of the first n rows that the address leads to.
-pub fn find_row(rows: &[Row], n: usize, address: u64) -> Pointer
+pub fn find_row(rows: &[Row], n: usize, address: u64) -> Result<Pointer, Refusal>
     ensures { calls.find_row rows.now n address result }
 {
     if rows.len() < n {
-        return Pointer::Refused(Fault::NOT_THERE);
+        return Err(Refusal::NotThere);
     }
     if address == 0 {
-        return Pointer::Null;
+        return Ok(Pointer::Null);
     }
-    let mut i = 0;
-    while i < n {
+    for i in 0..n {
         if row_is(rows[i], address) {
-            return Pointer::Block(i);
+            return Ok(Pointer::Block(i));
         }
-        i += 1;
     }
-    Pointer::Missing
+    Ok(Pointer::Missing)
 }
 
 /// The same for four rows by value: the one function here that lends them, for callers that hold no slice of rows.
-pub fn find_in(rows: [Row; 4], n: usize, address: u64) -> Pointer
+pub fn find_in(rows: [Row; 4], n: usize, address: u64) -> Result<Pointer, Refusal>
     ensures { calls.find_in rows n address result }
 {
     find_row(&rows, n, address)

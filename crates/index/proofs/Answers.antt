@@ -1,4 +1,5 @@
 -- Laws of the two calls as a whole: what is answered where all is there, and where it is not.
+use Rattle.std.specs.Prelude.{Result, Ok}
 use Prim.Native.Nat.{ℕ, ◌/◌, ◌%◌, ◌<◌}
 use mathlib.Core.List.{List}
 use mathlib.Core.Path.{◌≡◌, sym, ◌∙◌, ap}
@@ -11,8 +12,9 @@ use Rattle.octets.specs.Tables.{written}
 use Rattle.octets.proofs.Tests.{held, failed}
 use Rattle.block.specs.Rows.{per_row}
 use Rattle.runtime.specs.Addresses.{null}
-use Rattle.index.specs.declared.index.Indexed.{Indexed}
-use Rattle.index.specs.Index.{head_of, link_of, heads_of, links_of, where_there, built, indexed_as, paper_indexed, chain_from, found_as}
+use Rattle.index.specs.declared.index.IndexError.{IndexError}
+use Rattle.index.specs.declared.index.IndexError.{IndexError}
+use Rattle.index.specs.Index.{head_of, link_of, heads_of, links_of, where_there, built, indexed_as, paper_indexed, chain_from, found_as, paper_index_error}
 use Rattle.index.specs.Helpers.{Cleared, Chained}
 use Rattle.index.specs.Calls.{«index::build»}
 use Rattle.index.proofs.Building.{heads_built, links-built}
@@ -26,13 +28,13 @@ module _ (t : List ℕ) (rows buckets : ℕ) (heads links : List ℕ) where
   there : (answer : Paper) → Lengths → where_there (length t / per_row) rows buckets (length heads) (length links) answer ≡ answer
   there answer w = all_there (length t / per_row) rows buckets (length heads) (length links) answer w.rows-there w.some_bucket w.heads_there w.links-there
 
-  pub builds_not : (r : Indexed) (n : ℕ) (vs : List ℕ) → paper_indexed r ≡ refuses n vs → paper_indexed r ≡ indexed_as t rows buckets heads links → «index::build» t rows buckets heads links r heads links
+  pub builds_not : (r : Result (Unit {0}) IndexError) (n : ℕ) (vs : List ℕ) → paper_indexed r ≡ refuses n vs → paper_indexed r ≡ indexed_as t rows buckets heads links → «index::build» t rows buckets heads links r heads links
   builds_not r n vs q e =
       let k : indexed_as t rows buckets heads links ≡ refuses n vs = sym e ∙ q in
       (e, sym (ap (λ (p : Paper). written p (heads_of t rows buckets) heads) k), sym (ap (λ (p : Paper). written p (links_of t rows buckets) links) k))
 
   pub builds : Lengths → (cleared heads' links' : List ℕ) → Cleared buckets heads cleared → Chained t rows buckets 0 cleared heads' links links'
-      → «index::build» t rows buckets heads links Indexed.Built heads' links'
+      → «index::build» t rows buckets heads links (Ok tt) heads' links'
   builds w cleared heads' links' z c =
       let e = there built w in (
         sym e,
@@ -41,7 +43,7 @@ module _ (t : List ℕ) (rows buckets : ℕ) (heads links : List ℕ) where
       )
 
   -- what a building leaves in front of its tables
-  pub left : (heads' links' : List ℕ) → «index::build» t rows buckets heads links Indexed.Built heads' links'
+  pub left : (heads' links' : List ℕ) → «index::build» t rows buckets heads links (Ok tt) heads' links'
       → (0 < buckets) × (take buckets heads' ≡ heads_of t rows buckets) × (take rows links' ≡ links_of t rows buckets)
   unfolding heads_of links_of
   left heads' links' (e, h, l) =
@@ -63,3 +65,7 @@ module _ (t : List ℕ) (rows buckets : ℕ) (heads links : List ℕ) where
     pub finds_not : (n : ℕ) (vs : List ℕ) → refuses n vs ≡ indexed_as t rows buckets heads links → refuses n vs ≡ found_as t rows buckets heads links address
     unfolding found_as
     finds_not n vs e = refused-alike (length t / per_row) rows buckets (length heads) (length links) n vs _ e
+
+    pub finds_refused : (x : IndexError) → paper_index_error x ≡ indexed_as t rows buckets heads links → paper_index_error x ≡ found_as t rows buckets heads links address
+    finds_refused (IndexError.Refusal r) e = finds_not _ _ e
+    finds_refused (IndexError.TooShort b n) e = finds_not _ _ e

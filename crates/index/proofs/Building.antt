@@ -13,10 +13,6 @@ use Rattle.index.specs.Index.{first_at, bucket_of, is_in, head_of, link_of, head
 use Rattle.index.specs.Helpers.{Cleared, Chained}
 use Rattle.index.proofs.Firsts.{first-here, first_on, numbers-over}
 
--- clearing, number by number
-pub clears : (t : List ℕ) → Cleared 0 t t
-clears t = record { long = refl; cleared = λ i h. absurd (omega arith); kept = λ i h. refl }
-
 pub clears_more : (t t' : List ℕ) (i : ℕ) → i < length t → Cleared i t t' → Cleared (i + 1) t (set t' i 0)
 clears_more t t' i h c =
     record {

@@ -1,13 +1,13 @@
 -- Index: an index beside the row table, chains of row numbers plus 1 by address modulo a bucket count, and the search through it.
-use Rattle.std.specs.Prelude.{ℕ, zero, suc, ◌+◌, ◌-◌, ◌/◌, ◌%◌, max, Bool, true, false, ◌||◌, List, [], ◌∷◌, leb, ltb, eqb, length, get_or}
+use Rattle.std.specs.Prelude.{ℕ, zero, suc, ◌+◌, ◌-◌, ◌/◌, ◌%◌, max, Bool, true, false, ◌||◌, List, [], ◌∷◌, leb, ltb, eqb, length, get_or, Result, Ok, Err}
 use Rattle.octets.specs.Paper.{Paper}
-use Rattle.octets.specs.Paper.Paper.{accepts, refuses}
-use Rattle.octets.specs.Refusals.{not_there, index_too_short}
+use Rattle.octets.specs.Paper.Paper.{accepts}
+use Rattle.octets.specs.Refusals.{not_there, index_too_short, paper_refusal}
 use Rattle.octets.specs.Tables.{written}
 use Rattle.block.specs.Rows.{Column, per_row, cell}
-use Rattle.runtime.specs.Addresses.{matches, null, found, missing}
-use Rattle.index.specs.declared.index.Indexed.{Indexed}
-use Rattle.index.specs.declared.index.IndexPointer.{IndexPointer}
+use Rattle.runtime.specs.Addresses.{matches, null, found, missing, pointer}
+use Rattle.index.specs.declared.index.IndexError.{IndexError}
+use Rattle.runtime.specs.declared.runtime.Pointer.{Pointer}
 
 -- the first of n rows from `row` on at which a test holds, as its number plus 1; 0 where there is none
 unfoldable pub first_at : (ℕ → Bool) → (n row : ℕ) → ℕ
@@ -62,10 +62,17 @@ heads_after t rows buckets heads links = written (indexed_as t rows buckets head
 abbrev pub links_after : List ℕ → (rows buckets : ℕ) → (heads links : List ℕ) → List ℕ
 links_after t rows buckets heads links = written (indexed_as t rows buckets heads links) (links_of t rows buckets) links
 
-abbrev pub paper_indexed : Indexed → Paper
-paper_indexed Indexed.Built = built
-paper_indexed (Indexed.Refused n) = refuses n []
-paper_indexed (Indexed.TooShort buckets rows) = index_too_short buckets rows
+-- the papers of the answers: of an error, and of an answer by that of its value
+abbrev pub paper_index_error : IndexError → Paper
+paper_index_error (IndexError.Refusal r) = paper_refusal r
+paper_index_error (IndexError.TooShort buckets rows) = index_too_short buckets rows
+
+abbrev pub paper_index : {A : Type 0} → (A → Paper) → Result A IndexError → Paper
+paper_index paper (Ok a) = paper a
+paper_index paper (Err e) = paper_index_error e
+
+abbrev pub paper_indexed : Result (Unit {0}) IndexError → Paper
+paper_indexed r = paper_index (λ u. built) r
 
 -- The search. A match is what the plain search takes at that row.
 abbrev pub row_matches : List ℕ → (address row : ℕ) → Bool
@@ -97,9 +104,5 @@ found_as t rows buckets heads links address =
     where_there (length t / per_row) rows buckets (length heads) (length links)
     (elim (eqb address 0) [ true ↦ null | false ↦ chain_from t rows links address (get_or heads (address % buckets) 0) ])
 
-abbrev pub paper_found : IndexPointer → Paper
-paper_found IndexPointer.Null = null
-paper_found (IndexPointer.Block row) = found row
-paper_found IndexPointer.Missing = missing
-paper_found (IndexPointer.Refused n) = refuses n []
-paper_found (IndexPointer.TooShort buckets rows) = index_too_short buckets rows
+abbrev pub paper_found : Result Pointer IndexError → Paper
+paper_found r = paper_index pointer r

@@ -7,49 +7,41 @@ ghost use Rattle.index.specs.Helpers.{room_for, Cleared, Chained};
 ghost use Rattle.index.specs.Calls as calls;
 
 use block::Row;
-use octets::Fault;
-use runtime::runtime::matches;
+use octets::Refusal;
+use runtime::runtime::{Pointer, matches};
 
-/// Whether an index was built.
-#[derive(Clone, Copy)]
-pub enum Indexed {
-    Built,
-    // Refusal 13: the row table has fewer rows.
-    Refused(u64),
-    // Refusal 14, with the buckets and the rows that the two tables need.
-    TooShort(usize, usize),
-}
-
-/// What an address points to, by an index.
-#[derive(Clone, Copy)]
-pub enum IndexPointer {
-    Null,
-    // The number of the row.
-    Block(usize),
-    Missing,
-    // Refusal 13: the row table has fewer rows, or the chain leaves them or does not rise.
-    Refused(u64),
-    // Refusal 14, with the buckets and the rows that the two tables need.
+/// Why an index is not built or not used.
+#[derive(Clone, Copy, Debug, PartialEq, Eq)]
+pub enum IndexError {
+    /// Refusal 13: the row table has fewer rows, or a chain leaves them or does not rise.
+    Refusal(Refusal),
+    /// Refusal 14, with the buckets and the rows that the two tables need.
     TooShort(usize, usize),
 }
 
 // Whether all is there: a row table that has so many rows, and index tables of these lengths.
-fn room_for(has: usize, rows: usize, buckets: usize, heads: usize, links: usize) -> Indexed
+fn room_for(
+    has: usize,
+    rows: usize,
+    buckets: usize,
+    heads: usize,
+    links: usize,
+) -> Result<(), IndexError>
     ensures { rules.paper_indexed result ≡ room_for has rows buckets heads links }
 {
     if has < rows {
-        return Indexed::Refused(Fault::NOT_THERE);
+        return Err(IndexError::Refusal(Refusal::NotThere));
     }
     if buckets == 0 {
-        return Indexed::TooShort(1, rows);
+        return Err(IndexError::TooShort(1, rows));
     }
     if heads < buckets {
-        return Indexed::TooShort(buckets, rows);
+        return Err(IndexError::TooShort(buckets, rows));
     }
     if links < rows {
-        return Indexed::TooShort(buckets, rows);
+        return Err(IndexError::TooShort(buckets, rows));
     }
-    Indexed::Built
+    Ok(())
 }
 
 // The bucket that a row falls into.
@@ -65,11 +57,7 @@ fn clear(heads: &mut [u64], buckets: usize)
     requires { buckets ≤ length heads.old }
     ensures { Cleared buckets heads.old heads.new }
 {
-    let mut i = 0;
-    while i < buckets {
-        heads[i] = 0;
-        i += 1;
-    }
+    heads[..buckets].fill(0);
 }
 
 // Puts each row in front of its bucket's chain, from the last to the first.
@@ -78,9 +66,7 @@ fn chain_rows(table: &[u64], rows: usize, buckets: usize, heads: &mut [u64], lin
     requires by_index { (b : ℕ) → b < buckets → get_or heads.old b 0 ≡ 0 }
     ensures { Chained table.now rows buckets 0 heads.old heads.new links.old links.new }
 {
-    let mut row = rows;
-    while 0 < row {
-        row -= 1;
+    for row in (0..rows).rev() {
         let b = bucket_of(table, row, buckets);
         links[row] = heads[b];
         heads[b] = (row + 1) as u64;
@@ -94,24 +80,14 @@ pub fn build(
     buckets: usize,
     heads: &mut [u64],
     links: &mut [u64],
-) -> Indexed
+) -> Result<(), IndexError>
     ensures { calls.«index::build» table.now rows buckets heads.old links.old result heads.new links.new }
 {
-    match room_for(
-        table.len() / Row::NUMBERS,
-        rows,
-        buckets,
-        heads.len(),
-        links.len(),
-    ) {
-        Indexed::Built => {
-            clear(heads, buckets);
-            chain_rows(table, rows, buckets, heads, links);
-            Indexed::Built
-        }
-        Indexed::Refused(n) => Indexed::Refused(n),
-        Indexed::TooShort(b, n) => Indexed::TooShort(b, n),
-    }
+    let has = table.len() / Row::NUMBERS;
+    room_for(has, rows, buckets, heads.len(), links.len())?;
+    clear(heads, buckets);
+    chain_rows(table, rows, buckets, heads, links);
+    Ok(())
 }
 
 // Whether the search for an address takes a row.
@@ -123,8 +99,14 @@ fn row_matches(table: &[u64], row: usize, address: u64) -> bool
     matches(address, table[at + Row::CODE], table[at + Row::ADDRESS])
 }
 
-// Follows a chain from its head to the first row that matches.
-fn follow(table: &[u64], rows: usize, links: &[u64], head: u64, address: u64) -> IndexPointer
+// Follows a chain from its head to the first row that matches. It counts no index: each number says the next.
+fn follow(
+    table: &[u64],
+    rows: usize,
+    links: &[u64],
+    head: u64,
+    address: u64,
+) -> Result<Pointer, IndexError>
     requires { (rows ≤ length table.now / per_row) × (rows ≤ length links.now) }
     ensures { rules.paper_found result ≡ rules.chain_from table.now rows links.now address head }
 {
@@ -132,19 +114,19 @@ fn follow(table: &[u64], rows: usize, links: &[u64], head: u64, address: u64) ->
     let mut last: u64 = 0;
     while number != 0 {
         if (rows as u64) < number {
-            return IndexPointer::Refused(Fault::NOT_THERE);
+            return Err(IndexError::Refusal(Refusal::NotThere));
         }
         if number <= last {
-            return IndexPointer::Refused(Fault::NOT_THERE);
+            return Err(IndexError::Refusal(Refusal::NotThere));
         }
         let row = (number - 1) as usize;
         if row_matches(table, row, address) {
-            return IndexPointer::Block(row);
+            return Ok(Pointer::Block(row));
         }
         last = number;
         number = links[row];
     }
-    IndexPointer::Missing
+    Ok(Pointer::Missing)
 }
 
 /// What an address points to among the first rows of a table, by the chain of its bucket.
@@ -155,24 +137,14 @@ pub fn find(
     heads: &[u64],
     links: &[u64],
     address: u64,
-) -> IndexPointer
+) -> Result<Pointer, IndexError>
     ensures { calls.«index::find» table.now rows buckets heads.now links.now address result }
 {
-    match room_for(
-        table.len() / Row::NUMBERS,
-        rows,
-        buckets,
-        heads.len(),
-        links.len(),
-    ) {
-        Indexed::Built => {
-            if address == 0 {
-                return IndexPointer::Null;
-            }
-            let b = (address % (buckets as u64)) as usize;
-            follow(table, rows, links, heads[b], address)
-        }
-        Indexed::Refused(n) => IndexPointer::Refused(n),
-        Indexed::TooShort(b, n) => IndexPointer::TooShort(b, n),
+    let has = table.len() / Row::NUMBERS;
+    room_for(has, rows, buckets, heads.len(), links.len())?;
+    if address == 0 {
+        return Ok(Pointer::Null);
     }
+    let b = (address % (buckets as u64)) as usize;
+    follow(table, rows, links, heads[b], address)
 }

@@ -5,8 +5,10 @@ use mathlib.Core.Path.{◌≡◌, refl, sym, ◌∙◌, ap, subst}
 use native.Mathlib.Nat.{le_of_lt, zero-add}
 use native.Mathlib.Numerals.{add-one}
 use native.Mathlib.Omega.{arith}
+use borrow.Rule.Slice.PartMut.{put_mid}
 use lib.ListN.{length, get_or, take, drop, set, length-append}
 use lib.Seq.{drop-cons, take-suc, take_all, length-take-le, set_at, append_snoc, sets, sets-eq, length-sets}
+use Rattle.std.proofs.lemmas.Slice.{put_mid-paste}
 use Rattle.octets.specs.Helpers.{put}
 use Rattle.octets.specs.Paper.{Paper}
 use Rattle.octets.specs.Paper.Paper.{accepts, refuses}
@@ -34,7 +36,7 @@ pub accepted-written : (p : Paper) (kind : ℕ) (vs new t : List ℕ) → accept
 accepted-written p kind vs new t h = ap (λ (q : Paper). written q new t) h
 
 -- stores one after another
-put_sets : (t : List ℕ) (i : ℕ) (vs : List ℕ) → put t i vs ≡ sets t i vs
+pub put_sets : (t : List ℕ) (i : ℕ) (vs : List ℕ) → put t i vs ≡ sets t i vs
 unfolding put
 put_sets t i [] = refl
 put_sets t i (v ∷ vs) = put_sets (set t i v) (i + 1) vs ∙ rw add-one
@@ -43,6 +45,11 @@ pub put-over : (t vs : List ℕ) → length vs ≤ length t → put t 0 vs ≡ o
 put-over t vs h =
     let k : 0 + length vs ≤ length t = omega arith in
     put_sets t 0 vs ∙ sets-eq vs t 0 k ∙ ap (λ (n : ℕ). vs ++ drop n t) (zero-add (length vs))
+
+-- a part that is written over as one
+pub put-copied : (t : List ℕ) (i n : ℕ) (part row : List ℕ) → part ≡ row → n ≡ length row → i + length row ≤ length t → put_mid i n t part ≡ put t i row
+put-copied t i n part row p e h =
+    put_mid-paste i n t part row (length row) p (sym e) refl ∙ rw (take_all (length row) row (omega arith)) (sym (put_sets t i row ∙ sets-eq row t i h))
 
 pub put-length : (t : List ℕ) (i : ℕ) (vs : List ℕ) → length (put t i vs) ≡ length t
 put-length t i vs = ap length (put_sets t i vs) ∙ length-sets t i vs

@@ -1,42 +1,36 @@
--- Told as 2, a fault is on paper what it was, unless it is a refusal that has the number 16 or 17 itself; and it is no 2, unless it is a refusal that has that number. No tree gives
--- such a one.
+-- Told as 2, a fault is on paper what it was, and it is no 2: no refusal that carries nothing has the number 16, 17 or 2 itself.
 use Prim.Native.Nat.{ℕ, ◌<◌}
 use mathlib.Core.List.{List, []}
-use mathlib.Core.Path.{◌≡◌, refl, ◌∙◌, ap}
+use mathlib.Core.Path.{◌≡◌, refl, ◌∙◌}
 use native.Mathlib.Omega.{arith}
 use borrow.Author.Tests.{ne_eqb}
 use Rattle.octets.specs.declared.Fault.{Fault}
-use Rattle.octets.specs.declared.Fault.TheVariants.{Cut, Mark, Refusal}
+use Rattle.octets.specs.declared.Fault.TheVariants.{Cut, Mark}
 use Rattle.octets.specs.Former.{former_fault, former_told, as_two}
 use Rattle.octets.specs.Paper.Paper.{refuses}
 use Rattle.octets.specs.Reader.{Outcome}
 use Rattle.octets.specs.Reader.Outcome.{read, fault}
-use Rattle.octets.specs.Refusals.{paper_fault, told}
+use Rattle.octets.specs.Refusals.{number_of, paper_fault, told}
+use Rattle.octets.proofs.Numbers.{number_small, number-not_two}
 use Rattle.octets.proofs.Tests.{failed}
 
 as_told : (n : ℕ) (vs : List ℕ) → n < 16 → as_two (refuses n vs) ≡ refuses n vs
 as_told n vs h = failed _ _ (ne_eqb n 16 (λ e. absurd (omega arith))) ∙ failed _ _ (ne_eqb n 17 (λ e. absurd (omega arith)))
 
-pub fault-as_two : (x : Fault) → ((n : ℕ) → x ≡ Refusal n → n < 16) → as_two (paper_fault x) ≡ former_fault x
-fault-as_two (Cut at) h = refl
-fault-as_two (Mark at) h = refl
-fault-as_two (Refusal n) h = as_told n [] (h n refl)
+pub fault-as_two : (x : Fault) → as_two (paper_fault x) ≡ former_fault x
+fault-as_two (Cut at) = refl
+fault-as_two (Mark at) = refl
+fault-as_two (Fault.Refusal r) = as_told (number_of r) [] (number_small r)
 
-pub told_as-two : {A : Type 0} (numbers : A → List ℕ) (o : Outcome A) → ((n : ℕ) → o ≡ fault (Refusal n) → n < 16) → as_two (told numbers o) ≡ former_told numbers o
-told_as-two numbers (read a next) h = refl
-told_as-two {A} numbers (fault x) h =
-    let stop : Fault → Outcome A = fault in
-    fault-as_two x (λ n e. h n (ap stop e))
+pub told_as-two : {A : Type 0} (numbers : A → List ℕ) (o : Outcome A) → as_two (told numbers o) ≡ former_told numbers o
+told_as-two numbers (read a next) = refl
+told_as-two numbers (fault x) = fault-as_two x
 
-pub not_two : (x : Fault) → ((n : ℕ) → x ≡ Refusal n → n ≡ 2 → ⊥) → (vs : List ℕ) → paper_fault x ≡ refuses 2 vs → ⊥
-not_two (Cut at) h vs e = let z : ◌≡◌ {A = ℕ} 16 2 = cc in omega arith
-not_two (Mark at) h vs e = let z : ◌≡◌ {A = ℕ} 17 2 = cc in omega arith
-not_two (Refusal n) h vs e =
-    let z : n ≡ 2 = cc in
-    h n refl z
+pub not_two : (x : Fault) (vs : List ℕ) → paper_fault x ≡ refuses 2 vs → ⊥
+not_two (Cut at) vs e = let z : ◌≡◌ {A = ℕ} 16 2 = cc in omega arith
+not_two (Mark at) vs e = let z : ◌≡◌ {A = ℕ} 17 2 = cc in omega arith
+not_two (Fault.Refusal r) vs e = number-not_two r (cc)
 
-pub told_not_two : {A : Type 0} (numbers : A → List ℕ) (o : Outcome A) → ((n : ℕ) → o ≡ fault (Refusal n) → n ≡ 2 → ⊥) → (vs : List ℕ) → told numbers o ≡ refuses 2 vs → ⊥
-told_not_two numbers (read a next) h vs e = let z : ◌≡◌ {A = ℕ} 0 1 = cc in omega arith
-told_not_two {A} numbers (fault x) h vs e =
-    let stop : Fault → Outcome A = fault in
-    not_two x (λ n q. h n (ap stop q)) vs e
+pub told_not_two : {A : Type 0} (numbers : A → List ℕ) (o : Outcome A) (vs : List ℕ) → told numbers o ≡ refuses 2 vs → ⊥
+told_not_two numbers (read a next) vs e = let z : ◌≡◌ {A = ℕ} 0 1 = cc in omega arith
+told_not_two numbers (fault x) vs e = not_two x vs e

@@ -1,5 +1,6 @@
 -- Laws about the rules, for the proofs of this crate and of those above it.
 pub mod Tests
+pub mod Results
 pub mod Reading
 pub mod Times
 pub mod Onward
@@ -11,11 +12,13 @@ pub mod Own
 pub mod Refusing
 pub mod Extent
 pub mod Digits
+pub mod Halves
 pub mod Spelling
 pub mod Marks
 pub mod Here
 pub mod Filling
 pub mod Written
+pub mod Numbers
 pub mod Lossless
 pub mod Former
 pub mod Cutting

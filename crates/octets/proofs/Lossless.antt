@@ -2,48 +2,96 @@
 use Prim.Native.Nat.{ℕ, ◌<◌}
 use mathlib.Core.Bool.{Bool, true, false}
 use mathlib.Core.List.{List, [], ◌∷◌, ◌++◌}
-use mathlib.Core.Path.{◌≡◌, refl, ◌∙◌, ap}
+use mathlib.Core.Path.{◌≡◌, refl, sym, ◌∙◌, ap}
+use lib.Dec.{eqb}
+use Rattle.std.specs.Prelude.{Option, Some, None, Result, Ok, Err}
 use native.Mathlib.Omega.{arith}
+use Rattle.octets.specs.declared.Refusal.{Refusal}
+use Rattle.octets.specs.declared.Refusal.TheVariants.{CompressedFileNotSupported, InvalidMemoryAddress, UnsupportedCountOnPrincipalBlock, UnknownBlockCode, NoDnaBlockFound, InvalidArraySize, ProductTooLarge, ValueSliceTooShort, NotThere, NameNotFullyRead}
 use Rattle.octets.specs.declared.Fault.{Fault}
-use Rattle.octets.specs.declared.Fault.TheVariants.{Cut, Mark, Refusal}
+use Rattle.octets.specs.declared.Fault.TheVariants.{Cut, Mark}
 use Rattle.octets.specs.declared.cursor.Cursor.{Cursor}
-use Rattle.octets.specs.declared.cursor.Numbered.{Numbered}
-use Rattle.octets.specs.declared.cursor.Moved.{Moved}
-use Rattle.octets.specs.declared.cursor.Counted.{Counted}
-use Rattle.octets.specs.declared.cursor.Begun.{Begun}
-use Rattle.octets.specs.Cursor.{numbered, moved, counted, begun, paper_numbered, paper_moved, paper_counted, there_as, paper_begun}
+use Rattle.octets.specs.Cursor.{found, moved, begun, paper_found, paper_moved, there_as, paper_begun}
+use Rattle.octets.specs.Paper.{Paper}
 use Rattle.octets.specs.Paper.Paper.{refuses}
 use Rattle.octets.specs.Reader.{Outcome}
 use Rattle.octets.specs.Reader.Outcome.{read, fault}
-use Rattle.octets.specs.Refusals.{paper_fault, told}
+use Rattle.octets.specs.Refusals.{number_of, paper_answer, paper_fault, told}
 
 -- a place is its number
 pub at_one : (c d : Cursor) → c.at ≡ d.at → c ≡ d
 at_one c d e = ap (λ (n : ℕ). record { at = n }) e
 
-pub whole-numbered : (a b : Numbered) → numbered a ≡ numbered b → a ≡ b
-whole-numbered (Numbered.Is x y) (Numbered.Is x' y') h = cc (at_one y y' (cc))
-whole-numbered (Numbered.Is x y) (Numbered.Stopped x') h = cc
-whole-numbered (Numbered.Stopped x) (Numbered.Is x' y') h = cc
-whole-numbered (Numbered.Stopped x) (Numbered.Stopped x') h = cc
+pub whole-found : {A : Type 0} (a b : Result (A × Cursor) Fault) → found a ≡ found b → a ≡ b
+whole-found (Ok (x, y)) (Ok (x', y')) h = cc (at_one y y' (cc))
+whole-found (Ok (x, y)) (Err f) h = cc
+whole-found (Err f) (Ok (x, y)) h = cc
+whole-found (Err f) (Err g) h = cc
 
-pub whole-moved : (a b : Moved) → moved a ≡ moved b → a ≡ b
-whole-moved (Moved.To x) (Moved.To x') h = cc (at_one x x' (cc))
-whole-moved (Moved.To x) (Moved.Stopped x') h = cc
-whole-moved (Moved.Stopped x) (Moved.To x') h = cc
-whole-moved (Moved.Stopped x) (Moved.Stopped x') h = cc
+pub whole-moved : (a b : Result Cursor Fault) → moved a ≡ moved b → a ≡ b
+whole-moved (Ok x) (Ok y) h = cc (at_one x y (cc))
+whole-moved (Ok x) (Err f) h = cc
+whole-moved (Err f) (Ok x) h = cc
+whole-moved (Err f) (Err g) h = cc
 
-pub whole-counted : (a b : Counted) → counted a ≡ counted b → a ≡ b
-whole-counted (Counted.Is x y) (Counted.Is x' y') h = cc (at_one y y' (cc))
-whole-counted (Counted.Is x y) (Counted.Stopped x') h = cc
-whole-counted (Counted.Stopped x) (Counted.Is x' y') h = cc
-whole-counted (Counted.Stopped x) (Counted.Stopped x') h = cc
+pub whole-begun : (here : Cursor) (a b : Option Cursor) → begun here a ≡ begun here b → a ≡ b
+whole-begun here (Some x) (Some y) h = cc (at_one x y (cc))
+whole-begun here (Some x) None h = cc
+whole-begun here None (Some y) h = cc
+whole-begun here None None h = refl
 
-pub whole-begun : (a b : Begun) → begun a ≡ begun b → a ≡ b
-whole-begun a b h =
-    let t : a.there ≡ b.there = cc in
-    let n : a.next ≡ b.next = at_one a.next b.next (cc) in
-    ap (λ (c : Bool). record { there = c; next = a.next }) t ∙ ap (λ (c : Cursor). record { there = b.there; next = c }) n
+-- A refusal is its number: it is the one that the number leads back to.
+by_number : ℕ → Refusal
+by_number n =
+    elim (eqb n 1) [
+      | true ↦ CompressedFileNotSupported
+      | false ↦ elim (eqb n 3) [
+        | true ↦ InvalidMemoryAddress
+        | false ↦ elim (eqb n 4) [
+          | true ↦ UnsupportedCountOnPrincipalBlock
+          | false ↦ elim (eqb n 5) [
+            | true ↦ UnknownBlockCode
+            | false ↦ elim (eqb n 6) [
+              | true ↦ NoDnaBlockFound
+              | false ↦ elim (eqb n 9) [
+                | true ↦ InvalidArraySize
+                | false ↦ elim (eqb n 10) [
+                  | true ↦ ProductTooLarge
+                  | false ↦ elim (eqb n 12) [
+                    | true ↦ ValueSliceTooShort
+                    | false ↦ elim (eqb n 13) [ true ↦ NotThere | false ↦ NameNotFullyRead ]
+                  ]
+                ]
+              ]
+            ]
+          ]
+        ]
+      ]
+    ]
+
+back : (r : Refusal) → by_number (number_of r) ≡ r
+unfolding by_number
+back CompressedFileNotSupported = refl
+back InvalidMemoryAddress = refl
+back UnsupportedCountOnPrincipalBlock = refl
+back UnknownBlockCode = refl
+back NoDnaBlockFound = refl
+back InvalidArraySize = refl
+back ProductTooLarge = refl
+back ValueSliceTooShort = refl
+back NotThere = refl
+back NameNotFullyRead = refl
+
+pub one_refusal : (r q : Refusal) → number_of r ≡ number_of q → r ≡ q
+one_refusal r q e = sym (back r) ∙ ap by_number e ∙ back q
+
+-- so is an answer with it, where the values' papers lose nothing and are no refusals
+pub whole-answer : {A : Type 0} (paper : A → Paper) → ((a b : A) → paper a ≡ paper b → a ≡ b) → ((a : A) (n : ℕ) → paper a ≡ refuses n [] → ⊥)
+    → (x y : Result A Refusal) → paper_answer paper x ≡ paper_answer paper y → x ≡ y
+whole-answer paper one taken (Ok a) (Ok b) e = ap Ok (one a b e)
+whole-answer paper one taken (Ok a) (Err q) e = absurd (taken a (number_of q) e)
+whole-answer paper one taken (Err r) (Ok b) e = absurd (taken b (number_of r) (sym e))
+whole-answer paper one taken (Err r) (Err q) e = ap Err (one_refusal r q (cc))
 
 -- a fault is its paper
 pub whole-fault : (x y : Fault) → paper_fault x ≡ paper_fault y → x ≡ y
@@ -51,21 +99,21 @@ whole-fault (Cut m) (Cut n) e = cc
 whole-fault (Cut m) (Mark n) e =
     let z : ◌≡◌ {A = ℕ} 16 17 = cc in
     absurd (omega arith)
-whole-fault (Cut m) (Refusal n) e = cc
+whole-fault (Cut m) (Fault.Refusal n) e = cc
 whole-fault (Mark m) (Cut n) e =
     let z : ◌≡◌ {A = ℕ} 17 16 = cc in
     absurd (omega arith)
 whole-fault (Mark m) (Mark n) e = cc
-whole-fault (Mark m) (Refusal n) e = cc
-whole-fault (Refusal m) (Cut n) e = cc
-whole-fault (Refusal m) (Mark n) e = cc
-whole-fault (Refusal m) (Refusal n) e = cc
+whole-fault (Mark m) (Fault.Refusal n) e = cc
+whole-fault (Fault.Refusal m) (Cut n) e = cc
+whole-fault (Fault.Refusal m) (Mark n) e = cc
+whole-fault (Fault.Refusal m) (Fault.Refusal n) e = ap Fault.Refusal (one_refusal m n (cc))
 
 -- a refusal below 16 that carries something is no fault
 pub no-fault : (number m : ℕ) (ns : List ℕ) → number < 16 → (x : Fault) → refuses number (m ∷ ns) ≡ paper_fault x → ⊥
 no-fault number m ns l (Cut at) e = let z : number ≡ 16 = cc in omega arith
 no-fault number m ns l (Mark at) e = let z : number ≡ 17 = cc in omega arith
-no-fault number m ns l (Refusal n) e = let z : ◌≡◌ {A = ℕ} 0 1 = cc in omega arith
+no-fault number m ns l (Fault.Refusal n) e = let z : ◌≡◌ {A = ℕ} 0 1 = cc in omega arith
 
 -- a list and its last number, told as one list
 last_one : (xs ys : List ℕ) (x y : ℕ) → (xs ++ (x ∷ [])) ≡ (ys ++ (y ∷ [])) → (xs ≡ ys) × (x ≡ y)
@@ -103,14 +151,11 @@ one-there false true e =
 one-there false false e = refl
 
 -- and the cursor's answers
-pub paper_numbered_lem : (a b : Numbered) → paper_numbered a ≡ paper_numbered b → a ≡ b
-paper_numbered_lem a b e = whole-numbered a b (whole-told (λ n. n ∷ []) one_number (numbered a) (numbered b) e)
+pub paper_found_lem : (a b : Result (ℕ × Cursor) Fault) → paper_found a ≡ paper_found b → a ≡ b
+paper_found_lem a b e = whole-found a b (whole-told (λ n. n ∷ []) one_number (found a) (found b) e)
 
-pub paper_moved_lem : (a b : Moved) → paper_moved a ≡ paper_moved b → a ≡ b
+pub paper_moved_lem : (a b : Result Cursor Fault) → paper_moved a ≡ paper_moved b → a ≡ b
 paper_moved_lem a b e = whole-moved a b (whole-told (λ u. []) (λ u v f. refl) (moved a) (moved b) e)
 
-pub paper_counted_lem : (a b : Counted) → paper_counted a ≡ paper_counted b → a ≡ b
-paper_counted_lem a b e = whole-counted a b (whole-told (λ n. n ∷ []) one_number (counted a) (counted b) e)
-
-pub paper_begun_lem : (a b : Begun) → paper_begun a ≡ paper_begun b → a ≡ b
-paper_begun_lem a b e = whole-begun a b (whole-told (λ t. there_as t ∷ []) one-there (begun a) (begun b) e)
+pub paper_begun_lem : (here : Cursor) (a b : Option Cursor) → paper_begun here a ≡ paper_begun here b → a ≡ b
+paper_begun_lem here a b e = whole-begun here a b (whole-told (λ t. there_as t ∷ []) one-there (begun here a) (begun here b) e)

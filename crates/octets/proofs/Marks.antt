@@ -7,7 +7,7 @@ use native.Mathlib.Omega.{arith}
 use borrow.Author.Tests.{eqb-true, eq-eqb, ne_eqb}
 use lib.Dec.{eqb}
 use native.Mathlib.Numerals.{add-one}
-use lib.ListN.{length, get_or, take, drop, length-take, length-drop, drop_of_length-le}
+use lib.ListN.{length, get_or, take, drop, length-take, length-drop}
 use lib.Seq.{drop-cons}
 use Rattle.octets.specs.Reader.{same, stands, before, nearer}
 
@@ -33,10 +33,6 @@ decided false xs ys f g = go (same xs ys) refl
     go : (b : Bool) → same xs ys ≡ b → false ≡ b
     go true t = g (same-eq xs ys t)
     go false t = refl
-
-pub stands-none : (s : List ℕ) (at : ℕ) (m : List ℕ) → length m ≡ 0 → true ≡ stands s at m
-stands-none s at [] h = refl
-stands-none s at (x ∷ xs) h = absurd (omega arith)
 
 -- where a mark stands there is room for it
 pub stands-room : (s : List ℕ) (at : ℕ) (m : List ℕ) → stands s at m ≡ true → length m ≤ length s - at
@@ -65,9 +61,6 @@ module _ (c : ℕ) (l : List ℕ) (i : ℕ) where
 
   pub found_later : i < length l → (get_or l i 0 ≡ c → ⊥) → before c (drop i l) ≡ suc (before c (drop (i + 1) l))
   found_later h e = rw (add-one, drop-cons l i 0 h, ne_eqb _ _ e)
-
-  pub found_never : length l ≤ i → before c (drop i l) ≡ 0
-  found_never h = rw (drop_of_length-le l h)
 
 -- the place k after i, as it is written where k is a numeral
 abbrev pub after : ℕ → ℕ → ℕ

@@ -5,10 +5,11 @@ use mathlib.Core.List.{List}
 use mathlib.Core.Path.{◌≡◌, refl, sym, ◌∙◌, ap}
 use native.Mathlib.Omega.{arith}
 use lib.ListN.{length, take, drop}
+use Rattle.std.specs.Prelude.{Some, None}
 use Rattle.octets.specs.declared.Endianness.{Endianness}
 use Rattle.octets.specs.declared.Fault.{Fault}
 use Rattle.octets.specs.declared.Fault.TheVariants.{Cut, Mark}
-use Rattle.octets.specs.declared.cursor.Begun.{Begun}
+use Rattle.octets.specs.declared.cursor.Cursor.{Cursor}
 use Rattle.octets.specs.Cursor.{begun, part_of}
 use Rattle.octets.specs.Number.{spelled, number, tag}
 use Rattle.octets.specs.Reader.{Reader, Outcome, run, then, room, stands}
@@ -134,23 +135,23 @@ module _ {A : Type 0} (s : List ℕ) (at : ℕ) where
         go true e g = cc
         go false e g = failed _ _ e ∙ cc
 
-  module _ (m : List ℕ) (on off : Reader A) (b : Begun) (h : begun b ≡ run (begins m (done true) (done false)) s at) where
-    pub begins-there : b.there ≡ true → run (begins m on off) s at ≡ run on s b.next.at
+  module _ (m : List ℕ) (on off : Reader A) (here : Cursor) where
+    pub begins-there : (next : Cursor) → begun here (Some next) ≡ run (begins m (done true) (done false)) s at → run (begins m on off) s at ≡ run on s next.at
     unfolding run
-    begins-there t = go (stands s at m) refl h
+    begins-there next h = go (stands s at m) refl h
       where
-        go : (u : Bool) → stands s at m ≡ u → begun b ≡ (elim u as (λ (c : Bool). Outcome Bool) [ true ↦ read true (at + length m) | false ↦ read false at ])
-            → run (begins m on off) s at ≡ run on s b.next.at
+        go : (u : Bool) → stands s at m ≡ u → ◌≡◌ {A = Outcome Bool} (read true next.at) (elim u as (λ (c : Bool). Outcome Bool) [ true ↦ read true (at + length m) | false ↦ read false at ])
+            → run (begins m on off) s at ≡ run on s next.at
         go true e g =
-            let q : b.next.at ≡ at + length m = cc in
+            let q : next.at ≡ at + length m = cc in
             held _ _ e ∙ rw q refl
         go false e g = cc
 
-    pub begins_not : b.there ≡ false → run (begins m on off) s at ≡ run off s at
+    pub begins_not : begun here None ≡ run (begins m (done true) (done false)) s at → run (begins m on off) s at ≡ run off s at
     unfolding run
-    begins_not t = go (stands s at m) refl h
+    begins_not h = go (stands s at m) refl h
       where
-        go : (u : Bool) → stands s at m ≡ u → begun b ≡ (elim u as (λ (c : Bool). Outcome Bool) [ true ↦ read true (at + length m) | false ↦ read false at ])
+        go : (u : Bool) → stands s at m ≡ u → ◌≡◌ {A = Outcome Bool} (read false here.at) (elim u as (λ (c : Bool). Outcome Bool) [ true ↦ read true (at + length m) | false ↦ read false at ])
             → run (begins m on off) s at ≡ run off s at
         go true e g = cc
         go false e g = failed _ _ e

@@ -5,7 +5,6 @@ use mathlib.Core.List.{List, []}
 use mathlib.Core.Path.{◌≡◌, refl, sym, ◌∙◌}
 use native.Mathlib.Omega.{arith}
 use borrow.Author.Tests.{le-leb, lt-leb, lt-ltb, le-ltb, leb-true, leb-false}
-use lib.Dec.{leb}
 use lib.ListN.{length, take, drop, length-drop}
 use lib.Seq.{take_all}
 use Rattle.octets.specs.declared.Endianness.{Endianness}
@@ -38,18 +37,6 @@ run-then (bytes n k) f s at = by-test (room s at n) _ _ _ _ _ (run-then (k (take
 run-then (skip n r) f s at = by-test (room s at n) _ _ _ _ _ (run-then r f s (at + n)) refl
 run-then (until end k) f s at = by-test (ended_by end s at) _ _ _ _ _ (run-then (k (before end (drop at s))) f s (at + (before end (drop at s) + 1))) refl
 run-then (begins m on off) f s at = by-test (stands s at m) _ _ _ _ _ (run-then on f s (at + length m)) (run-then off f s at)
-
--- whether n bytes are there, asked from the front and from the place on
-pub room-past : (s : List ℕ) (at n : ℕ) → at ≤ length s → leb n (length s - at) ≡ room s at n
-room-past s at n h = go (leb n (length s - at)) refl
-  where
-    go : (b : Bool) → leb n (length s - at) ≡ b → b ≡ room s at n
-    go true t =
-        let k : at + n ≤ length s = omega (arith, leb-true n (length s - at) t) in
-        sym (le-leb _ _ k)
-    go false t =
-        let k : length s < at + n = omega (arith, leb-false n (length s - at) t) in
-        sym (lt-leb _ _ k)
 
 -- the same as facts of numbers, for a Bool that says it
 module _ {r : Bool} (s : List ℕ) (at n : ℕ) (e : r ≡ room s at n) where

@@ -1,17 +1,19 @@
--- Which refusals a tree gives: where every `refuse` in it has a number with some property, so has every refusal that it finds.
+-- Which refusals a tree gives: where every `refuse` in it has some property, so has every refusal that it finds.
 use Prim.Native.Nat.{ℕ, zero, suc, ◌+◌, ◌-◌}
 use mathlib.Core.Bool.{Bool, true, false}
 use mathlib.Core.List.{List}
 use mathlib.Core.Path.{◌≡◌, subst}
 use native.Mathlib.Omega.{arith}
 use lib.ListN.{length, take, drop}
-use Rattle.octets.specs.declared.Fault.TheVariants.{Cut, Mark, Refusal}
+use Rattle.octets.specs.declared.Refusal.{Refusal}
+use Rattle.octets.specs.declared.Fault.{Fault}
+use Rattle.octets.specs.declared.Fault.TheVariants.{Cut, Mark}
 use Rattle.octets.specs.Number.{tag}
 use Rattle.octets.specs.Reader.{Reader, Outcome, run, then, times, same, room, ended_by, stands, before}
 use Rattle.octets.specs.Reader.Reader.{done, refuse, stray, here, bytes, skip, until, begins}
 use Rattle.octets.specs.Reader.Outcome.{read, fault}
 
-module _ (P : ℕ → Type 0) where
+module _ (P : Refusal → Type 0) where
   abbrev pub Gives : {A : Type 0} → Reader A → Type 0
   Gives (done a) = Unit {0}
   Gives (refuse n) = P n
@@ -23,7 +25,7 @@ module _ (P : ℕ → Type 0) where
   Gives (begins m on off) = Gives on × Gives off
 
   abbrev Given : {A : Type 0} → Outcome A → Type 0
-  Given o = (n : ℕ) → o ≡ fault (Refusal n) → P n
+  Given o = (r : Refusal) → o ≡ fault (Fault.Refusal r) → P r
 
   cut : {A : Type 0} (at : ℕ) → Given {A = A} (fault (Cut at))
   cut at n e =
@@ -40,9 +42,9 @@ module _ (P : ℕ → Type 0) where
       let z : ◌≡◌ {A = ℕ} 0 1 = cc in
       absurd (omega arith)
 
-  this : {A : Type 0} (m : ℕ) → P m → Given {A = A} (fault (Refusal m))
-  this m w n e =
-      let k : m ≡ n = cc in
+  this : {A : Type 0} (q : Refusal) → P q → Given {A = A} (fault (Fault.Refusal q))
+  this q w r e =
+      let k : q ≡ r = cc in
       subst P k w
 
   pub given : {A : Type 0} (r : Reader A) → Gives r → (s : List ℕ) (at : ℕ) → Given (run r s at)

@@ -1,13 +1,12 @@
 -- Numbers to bytes and back, over the number of bytes and for both orders; and what a tree reads where given bytes stand.
 use Prim.Native.Nat.{ℕ, zero, suc, ◌+◌, ◌*◌, ◌/◌, ◌%◌, ◌^◌, ◌<◌}
-use mathlib.Core.List.{List, [], ◌∷◌, ◌++◌, reverse, reverse-append, reverse-reverse}
+use mathlib.Core.List.{List, [], ◌∷◌, reverse-reverse}
 use mathlib.Core.Path.{◌≡◌, refl, sym, ◌∙◌, ap}
-use native.Mathlib.Nat.{pow-succ', div-div-eq-div-mul}
+use native.Mathlib.Nat.{pow-succ'}
 use native.Mathlib.Omega.{arith}
 use lib.ListN.{length}
 use Rattle.octets.specs.declared.Endianness.{Endianness}
 use Rattle.octets.specs.declared.Endianness.TheVariants.{Little, Big}
-use Rattle.octets.specs.Helpers.{first_half, second_half}
 use Rattle.octets.specs.Number.{Bytes, little, least_first, spelled, digits, bytes_of}
 use Rattle.octets.proofs.Digits.{least-length, least-bytes}
 
@@ -45,19 +44,3 @@ pub spelled-bytes_of : (e : Endianness) (l : List ℕ) → Bytes l → bytes_of 
 spelled-bytes_of e l h =
     let n : length (least_first e l) ≡ length l = least-length e l in
     ap (λ (w : ℕ). bytes_of e w (spelled e l)) (sym n) ∙ ap (least_first e) (little-digits (least_first e l) (least-bytes e l h)) ∙ least-again e l
-
--- By halves: this is how a number of any width is written.
-digits-join : (a b n : ℕ) → digits (a + b) n ≡ digits a n ++ digits b (n / 256 ^ a)
-digits-join zero b n =
-    let e : zero + b ≡ b = omega arith in
-    let d : n / 256 ^ zero ≡ n = omega arith in
-    rw (e, d) refl
-digits-join (suc a) b n =
-    let e : suc a + b ≡ suc (a + b) = omega arith in
-    let d : n / 256 / 256 ^ a ≡ n / 256 ^ suc a = div-div-eq-div-mul n 256 (256 ^ a) ∙ ap (λ (k : ℕ). n / k) (sym (pow-succ' 256 a)) in
-    rw e (ap (λ (l : List ℕ). n % 256 ∷ l) (digits-join a b (n / 256) ∙ ap (λ (k : ℕ). digits a (n / 256) ++ digits b k) d))
-
-pub bytes_of_halves : (e : Endianness) (w base n : ℕ) → base ≡ 256 ^ w → bytes_of e (w + w) n ≡ bytes_of e w (first_half e base n) ++ bytes_of e w (second_half e base n)
-bytes_of_halves Little w base n h = digits-join w w n ∙ ap (λ (k : ℕ). digits w n ++ digits w (n / k)) (sym h)
-bytes_of_halves Big w base n h =
-    ap reverse (digits-join w w n) ∙ reverse-append (digits w n) (digits w (n / 256 ^ w)) ∙ ap (λ (k : ℕ). reverse (digits w (n / k)) ++ reverse (digits w n)) (sym h)

@@ -2,16 +2,17 @@
 -- Kept for one law alone: together 16 and 17 occur exactly where 2 did (`WhereTwoWas` in crates/demands/specs/Malformed.antt). No contract names it.
 use Rattle.std.specs.Prelude.{ℕ, true, false, List, [], ◌∷◌, ◌++◌, eqb}
 use Rattle.octets.specs.declared.Fault.{Fault}
-use Rattle.octets.specs.declared.Fault.TheVariants.{Cut, Mark, Refusal}
+use Rattle.octets.specs.declared.Fault.TheVariants.{Cut, Mark}
 use Rattle.octets.specs.Paper.{Paper}
 use Rattle.octets.specs.Paper.Paper.{accepts, integer, real, refuses}
 use Rattle.octets.specs.Reader.{Outcome}
 use Rattle.octets.specs.Reader.Outcome.{read, fault}
+use Rattle.octets.specs.Refusals.{number_of}
 
 abbrev pub former_fault : Fault → Paper
 former_fault (Cut at) = refuses 2 []
 former_fault (Mark at) = refuses 2 []
-former_fault (Refusal n) = refuses n []
+former_fault (Fault.Refusal r) = refuses (number_of r) []
 
 abbrev pub former_told : {A : Type 0} → (A → List ℕ) → Outcome A → Paper
 former_told numbers (read a next) = accepts 0 (numbers a ++ (next ∷ []))

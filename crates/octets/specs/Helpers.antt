@@ -1,9 +1,8 @@
 -- What helpers of the code ensure. No rule uses it but `number_at`, which `header_in` of crates/block goes by.
-use Rattle.std.specs.Prelude.{ℕ, zero, suc, ◌+◌, ◌/◌, ◌≤◌, List, [], ◌∷◌, take, drop, set}
+use Rattle.std.specs.Prelude.{ℕ, zero, suc, ◌+◌, ◌≤◌, List, [], ◌∷◌, take, drop, set}
 use Rattle.octets.specs.declared.Endianness.{Endianness}
-use Rattle.octets.specs.declared.Endianness.TheVariants.{Little, Big}
 use Rattle.octets.specs.declared.Fault.{Fault}
-use Rattle.octets.specs.declared.Fault.TheVariants.{Cut, Mark, Refusal}
+use Rattle.octets.specs.declared.Fault.TheVariants.{Cut, Mark}
 use Rattle.octets.specs.Number.{spelled}
 use Rattle.octets.specs.Reader.{Reader, Outcome, run}
 use Rattle.octets.specs.Reader.Outcome.{read, fault}
@@ -16,7 +15,7 @@ number_at e w s at = spelled e (take w (drop at s))
 abbrev pub Placed : ℕ → Fault → Type 0
 Placed n (Cut at) = at ≤ n
 Placed n (Mark at) = at ≤ n
-Placed n (Refusal k) = Unit {0}
+Placed n (Fault.Refusal r) = Unit {0}
 
 -- how far a tree came, or its fault, without what it found
 abbrev pub past : {A : Type 0} → Outcome A → Outcome (Unit {0})
@@ -36,12 +35,3 @@ leading (suc n) r s at = go_on (run r s at) (leading n r s)
 unfoldable pub put : List ℕ → ℕ → List ℕ → List ℕ
 put t i [] = t
 put t i (v ∷ vs) = put (set t i v) (i + 1) vs
-
--- the number whose bytes come first, and the one whose bytes come second: in the little order the less significant half is first
-abbrev pub first_half : Endianness → (base n : ℕ) → ℕ
-first_half Little base n = n
-first_half Big base n = n / base
-
-abbrev pub second_half : Endianness → (base n : ℕ) → ℕ
-second_half Little base n = n / base
-second_half Big base n = n

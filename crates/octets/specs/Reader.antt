@@ -1,12 +1,13 @@
 -- What reading is: a tree of reads, and what a tree finds in a run of bytes. A tree looks at bytes in no other way than by its reads, so
 -- what a find depends on is proved once, of every tree (proofs/Unaltered.antt).
 use Rattle.std.specs.Prelude.{ℕ, zero, suc, ◌+◌, ◌-◌, Bool, true, false, ◌&&◌, List, [], ◌∷◌, leb, ltb, eqb, length, take, drop}
+use Rattle.octets.specs.declared.Refusal.{Refusal}
 use Rattle.octets.specs.declared.Fault.{Fault}
-use Rattle.octets.specs.declared.Fault.TheVariants.{Cut, Mark, Refusal}
+use Rattle.octets.specs.declared.Fault.TheVariants.{Cut, Mark}
 
 pub data Reader (A : Type 0) : Type 0 where
   done : A → Reader A  -- nothing is left to read
-  refuse : ℕ → Reader A  -- the refusal with this number
+  refuse : Refusal → Reader A  -- this refusal
   stray : ℕ → Reader A  -- the n bytes just read are not what they have to be; the fault's place is their first byte
   here : (ℕ → Reader A) → Reader A  -- the place
   bytes : (n : ℕ) → (List ℕ → Reader A) → Reader A  -- the next n bytes
@@ -50,7 +51,7 @@ stands s at m = same (take (length m) (drop at s)) m
 -- what a tree finds in s from `at`
 unfoldable pub run : {A : Type 0} → Reader A → List ℕ → ℕ → Outcome A
 run (done a) s at = read a at
-run (refuse n) s at = fault (Refusal n)
+run (refuse r) s at = fault (Fault.Refusal r)
 run (stray n) s at = fault (Mark (at - n))
 run (here k) s at = run (k at) s at
 run (bytes n k) s at = elim (room s at n) [ true ↦ run (k (take n (drop at s))) s (at + n) | false ↦ fault (Cut at) ]
@@ -65,7 +66,7 @@ string k = until 0 k
 -- one tree, and then another that may go by what the first found
 unfoldable pub then : {A B : Type 0} → Reader A → (A → Reader B) → Reader B
 then (done a) f = f a
-then (refuse n) f = refuse n
+then (refuse x) f = refuse x
 then (stray n) f = stray n
 then (here k) f = here (λ at. then (k at) f)
 then (bytes n k) f = bytes n (λ b. then (k b) f)

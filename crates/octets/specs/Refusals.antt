@@ -1,13 +1,15 @@
 -- Refusal numbers: the number of each refusal, and what it carries.
-use Rattle.std.specs.Prelude.{ℕ, List, [], ◌∷◌, ◌++◌}
+use Rattle.std.specs.Prelude.{ℕ, List, [], ◌∷◌, ◌++◌, Result, Ok, Err}
+use Rattle.octets.specs.declared.Refusal.{Refusal}
+use Rattle.octets.specs.declared.Refusal.TheVariants.{CompressedFileNotSupported, InvalidMemoryAddress, UnsupportedCountOnPrincipalBlock, UnknownBlockCode, NoDnaBlockFound, InvalidArraySize, ProductTooLarge, ValueSliceTooShort, NotThere, NameNotFullyRead}
 use Rattle.octets.specs.declared.Fault.{Fault}
-use Rattle.octets.specs.declared.Fault.TheVariants.{Cut, Mark, Refusal}
+use Rattle.octets.specs.declared.Fault.TheVariants.{Cut, Mark}
 use Rattle.octets.specs.Paper.{Paper}
 use Rattle.octets.specs.Paper.Paper.{accepts, refuses}
 use Rattle.octets.specs.Reader.{Outcome}
 use Rattle.octets.specs.Reader.Outcome.{read, fault}
 
--- Those that a reading tree or a chain gives are numbers here: a tree says `refuse unknown_block_code`, and `paper_fault` tells it. In the place of document 01's 2,
+-- Those that a reading tree or a chain gives are numbers here: a tree says `refuse UnknownBlockCode`, and `paper_fault` tells it. In the place of document 01's 2,
 -- malformed, stand 16, cut short, and 17, wrong mark (request 3 of document 02).
 abbrev pub compressed_file_not_supported : ℕ
 compressed_file_not_supported = 1
@@ -71,24 +73,45 @@ output_too_short needed = refuses 18 (needed ∷ [])
 abbrev pub no_room_in_form : ℕ → Paper
 no_room_in_form row = refuses 19 (row ∷ [])
 
+-- The number of a refusal that carries nothing.
+abbrev pub number_of : Refusal → ℕ
+number_of CompressedFileNotSupported = compressed_file_not_supported
+number_of InvalidMemoryAddress = invalid_memory_address
+number_of UnsupportedCountOnPrincipalBlock = unsupported_count_on_principal_block
+number_of UnknownBlockCode = unknown_block_code
+number_of NoDnaBlockFound = no_dna_block_found
+number_of InvalidArraySize = 9
+number_of ProductTooLarge = 10
+number_of ValueSliceTooShort = 12
+number_of NotThere = 13
+number_of NameNotFullyRead = 15
+
 -- The number of a fault's refusal, and what it carries: a cut and a wrong mark the offset of the failed read's first byte, the others nothing.
 abbrev pub refusal_of : Fault → ℕ
 refusal_of (Cut at) = cut_short
 refusal_of (Mark at) = wrong_mark
-refusal_of (Refusal n) = n
+refusal_of (Fault.Refusal r) = number_of r
 
 abbrev pub carried_by : Fault → List ℕ
 carried_by (Cut at) = at ∷ []
 carried_by (Mark at) = at ∷ []
-carried_by (Refusal n) = []
+carried_by (Fault.Refusal r) = []
 
 -- the place of a fault, 0 where it has none
 abbrev pub place_of : Fault → ℕ
 place_of (Cut at) = at
 place_of (Mark at) = at
-place_of (Refusal n) = 0
+place_of (Fault.Refusal r) = 0
 
--- A fault of a reading tree on paper, and what a tree found, with its numbers and the place after it. Nothing is lost (proofs/Lossless.antt).
+-- A refusal on paper, and a fault of a reading tree, and what a tree found, with its numbers and the place after it. Nothing is lost (proofs/Lossless.antt).
+abbrev pub paper_refusal : Refusal → Paper
+paper_refusal r = refuses (number_of r) []
+
+-- the paper of an answer that is a value or a refusal, by that of its value
+abbrev pub paper_answer : {A : Type 0} → (A → Paper) → Result A Refusal → Paper
+paper_answer paper (Ok a) = paper a
+paper_answer paper (Err r) = paper_refusal r
+
 abbrev pub paper_fault : Fault → Paper
 paper_fault f = refuses (refusal_of f) (carried_by f)
 

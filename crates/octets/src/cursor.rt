@@ -1,6 +1,7 @@
 // A place in a run of bytes, moved by value: what nom's closures over the input are in the Rust. Each method is one read of a reading tree
 // (specs/Reader.antt), takes any place and any bytes, and hands the next place back in its answer.
-ghost use Rattle.std.specs.Prelude.{◌≡◌, ◌+◌, ◌≤◌, length, drop};
+ghost use Rattle.std.specs.Prelude.{◌≡◌, ◌+◌, ◌≤◌, ◌<◌, length, drop, MatchResult};
+ghost use Rattle.octets.specs.declared.Fault.{Fault};
 ghost use Rattle.octets.specs.Reader as rules;
 ghost use Rattle.octets.specs.Reader.{room};
 ghost use Rattle.octets.specs.Calls as calls;
@@ -9,13 +10,13 @@ use crate::number::number;
 use crate::{Endianness, Fault};
 
 /// A place in a run of bytes: the offset of the next read.
-#[derive(Clone, Copy)]
+#[derive(Clone, Copy, Debug, PartialEq, Eq)]
 pub struct Cursor {
     pub at: usize,
 }
 
 /// How many bytes a number has.
-#[derive(Clone, Copy)]
+#[derive(Clone, Copy, Debug, PartialEq, Eq)]
 pub enum Width {
     One,
     Two,
@@ -35,34 +36,6 @@ impl Width {
             Width::Eight => 8,
         }
     }
-}
-
-/// A number and the place after it.
-#[derive(Clone, Copy)]
-pub enum Numbered {
-    Is(u64, Cursor),
-    Stopped(Fault),
-}
-
-/// The place after a run of bytes. The run itself starts at the place that was asked.
-#[derive(Clone, Copy)]
-pub enum Moved {
-    To(Cursor),
-    Stopped(Fault),
-}
-
-/// How many bytes stand before the one that ends a run, and the place after that one.
-#[derive(Clone, Copy)]
-pub enum Counted {
-    Is(usize, Cursor),
-    Stopped(Fault),
-}
-
-/// Whether a mark was there, and the place after it, or the same place where it was not.
-#[derive(Clone, Copy)]
-pub struct Begun {
-    pub there: bool,
-    pub next: Cursor,
 }
 
 // Whether s has n bytes from at.
@@ -91,27 +64,23 @@ pub fn stands_at(s: &[u8], at: usize, m: &[u8]) -> bool
     }
 }
 
-// Where the first byte stands that is c, from a place on; the end of s where there is none. The first goes byte by byte, the second eight bytes a turn, as
-// long as there are eight.
-fn place_by_bytes(s: &[u8], c: u8, from: usize) -> usize
-    requires { from ≤ length s.now }
-    ensures { result ≡ from + rules.before c (drop from s.now) }
+// The same byte by byte.
+fn before_by_bytes(s: &[u8], c: u8) -> usize
+    ensures { result ≡ rules.before c s.now }
 {
-    let mut i = from;
-    while i < s.len() {
+    for i in 0..s.len() {
         if s[i] == c {
             return i;
         }
-        i += 1;
     }
-    i
+    s.len()
 }
 
-fn place_from(s: &[u8], c: u8, from: usize) -> usize
-    requires { from ≤ length s.now }
-    ensures { result ≡ from + rules.before c (drop from s.now) }
+/// How many bytes stand before the first that is c; all of them where there is none. It goes eight bytes a turn, as long as there are eight, which an iterator does not.
+pub fn before(s: &[u8], c: u8) -> usize
+    ensures { calls.«cursor::before» s.now c result }
 {
-    let mut i = from;
+    let mut i = 0;
     while i + 7 < s.len() {
         if s[i] == c {
             return i;
@@ -139,14 +108,7 @@ fn place_from(s: &[u8], c: u8, from: usize) -> usize
         }
         i += 8;
     }
-    place_by_bytes(s, c, i)
-}
-
-/// How many bytes stand before the first that is c; all of them where there is none.
-pub fn before(s: &[u8], c: u8) -> usize
-    ensures { calls.«cursor::before» s.now c result }
-{
-    place_from(s, c, 0)
+    i + before_by_bytes(&s[i..], c)
 }
 
 impl Cursor {
@@ -157,34 +119,35 @@ impl Cursor {
         Cursor { at }
     }
 
+    // The end of the next n bytes, where they are there.
+    fn end_of(self, s: &[u8], n: usize) -> Result<usize, Fault>
+        ensures { MatchResult result (λ end. (end ≡ self.at + n) × (self.at + n ≤ length s.now)) (λ f. (f ≡ Fault.Cut self.at) × (length s.now < self.at + n)) }
+    {
+        if has(s, self.at, n) {
+            Ok(self.at + n)
+        } else {
+            Err(Fault::Cut(self.at))
+        }
+    }
+
     /// A number of a width and an order.
-    pub fn number(self, s: &[u8], width: Width, order: Endianness) -> Numbered
+    pub fn number(self, s: &[u8], width: Width, order: Endianness) -> Result<(u64, Cursor), Fault>
         ensures { calls.«cursor::Cursor::number» self s.now width order result }
     {
-        let at = self.at;
-        let n = width.bytes_num();
-        if has(s, at, n) {
-            let end = at + n;
-            Numbered::Is(number(&s[at..end], width, order), Cursor { at: end })
-        } else {
-            Numbered::Stopped(Fault::Cut(at))
-        }
+        let end = self.end_of(s, width.bytes_num())?;
+        Ok((number(&s[self.at..end], width, order), Cursor { at: end }))
     }
 
     /// The next n bytes, whatever they hold.
-    pub fn skip(self, s: &[u8], n: usize) -> Moved
+    pub fn skip(self, s: &[u8], n: usize) -> Result<Cursor, Fault>
         ensures { calls.«cursor::Cursor::skip» self s.now n result }
     {
-        let at = self.at;
-        if has(s, at, n) {
-            Moved::To(Cursor { at: at + n })
-        } else {
-            Moved::Stopped(Fault::Cut(at))
-        }
+        let end = self.end_of(s, n)?;
+        Ok(Cursor { at: end })
     }
 
     /// The next n bytes, for a caller that looks at them.
-    pub fn bytes(self, s: &[u8], n: usize) -> Moved
+    pub fn bytes(self, s: &[u8], n: usize) -> Result<Cursor, Fault>
         ensures { calls.«cursor::Cursor::bytes» self s.now n result }
     {
         self.skip(s, n)
@@ -203,57 +166,47 @@ impl Cursor {
     }
 
     /// These very bytes.
-    pub fn mark(self, s: &[u8], m: &[u8]) -> Moved
+    pub fn mark(self, s: &[u8], m: &[u8]) -> Result<Cursor, Fault>
         ensures { calls.«cursor::Cursor::mark» self s.now m.now result }
     {
-        let at = self.at;
-        let n = m.len();
-        if !has(s, at, n) {
-            return Moved::Stopped(Fault::Cut(at));
-        }
-        if stands_at(s, at, m) {
-            Moved::To(Cursor { at: at + n })
+        let end = self.end_of(s, m.len())?;
+        if stands_at(s, self.at, m) {
+            Ok(Cursor { at: end })
         } else {
-            Moved::Stopped(Fault::Mark(at))
+            Err(Fault::Mark(self.at))
         }
     }
 
-    /// Past these bytes where they are next; where they are not, the same place.
-    pub fn begins(self, s: &[u8], m: &[u8]) -> Begun
+    /// Past these bytes where they are next.
+    pub fn begins(self, s: &[u8], m: &[u8]) -> Option<Cursor>
         ensures { calls.«cursor::Cursor::begins» self s.now m.now result }
     {
         let at = self.at;
         if stands_at(s, at, m) {
-            Begun {
-                there: true,
-                next: Cursor { at: at + m.len() },
-            }
+            Some(Cursor { at: at + m.len() })
         } else {
-            Begun {
-                there: false,
-                next: self,
-            }
+            None
         }
     }
 
     /// The bytes up to the next c, and that c.
-    pub fn until(self, s: &[u8], c: u8) -> Counted
+    pub fn until(self, s: &[u8], c: u8) -> Result<(usize, Cursor), Fault>
         ensures { calls.«cursor::Cursor::until» self s.now c result }
     {
         let at = self.at;
         if s.len() <= at {
-            return Counted::Stopped(Fault::Cut(at));
+            return Err(Fault::Cut(at));
         }
-        let end = place_from(s, c, at);
-        if end < s.len() {
-            Counted::Is(end - at, Cursor { at: end + 1 })
+        let n = before(&s[at..], c);
+        if n < s.len() - at {
+            Ok((n, Cursor { at: at + n + 1 }))
         } else {
-            Counted::Stopped(Fault::Cut(at))
+            Err(Fault::Cut(at))
         }
     }
 
     /// The bytes up to the next zero, and the zero.
-    pub fn string(self, s: &[u8]) -> Counted
+    pub fn string(self, s: &[u8]) -> Result<(usize, Cursor), Fault>
         ensures { calls.«cursor::Cursor::string» self s.now result }
     {
         self.until(s, 0)

@@ -7,8 +7,11 @@ mod number;
 ghost use Rattle.std.specs.Prelude.{◌≡◌};
 ghost use Rattle.octets.specs.Calls as calls;
 
+use std::error::Error;
+use std::fmt;
+
 /// Size of a pointer on the machine used to create the .blend file.
-#[derive(Clone, Copy)]
+#[derive(Clone, Copy, Debug, PartialEq, Eq)]
 pub enum PointerSize {
     Bits32,
     Bits64,
@@ -33,41 +36,60 @@ impl PointerSize {
     }
 }
 
+// In bits.
+impl fmt::Display for PointerSize {
+    fn fmt<W: fmt::Write>(&self, f: &mut fmt::Formatter<W>) -> fmt::Result {
+        match self {
+            PointerSize::Bits32 => write!(f, "32"),
+            PointerSize::Bits64 => write!(f, "64"),
+        }
+    }
+}
+
 /// Endianness of the machine used to create the .blend file.
-#[derive(Clone, Copy)]
+#[derive(Clone, Copy, Debug, PartialEq, Eq)]
 pub enum Endianness {
     Little,
     Big,
 }
 
-/// Why reading stopped, and where: the offset of the failed read's first byte.
-#[derive(Clone, Copy)]
-pub enum Fault {
-    /// Fewer bytes are left than the read wants, or the byte that ends a run never comes.
-    Cut(usize),
-    /// Enough bytes are left, and they are not the ones that have to stand there.
-    Mark(usize),
-    /// The refusal with this number, for what was read.
-    Refusal(u64),
+impl fmt::Display for Endianness {
+    fn fmt<W: fmt::Write>(&self, f: &mut fmt::Formatter<W>) -> fmt::Result {
+        match self {
+            Endianness::Little => write!(f, "little"),
+            Endianness::Big => write!(f, "big"),
+        }
+    }
 }
 
-impl Fault {
-    // The numbers of the refusals, as documents 01 and 02 have them. Document 01's 2, malformed, is 16 or 17 here.
+/// A refusal that carries nothing, by its name in document 01's table. Those that carry something are variants of the errors of the calls that give them.
+#[derive(Clone, Copy, Debug, PartialEq, Eq)]
+pub enum Refusal {
+    /// 1: the file does not begin with "BLENDER": it may be compressed.
+    CompressedFileNotSupported,
+    /// 3: a block has the address 0.
+    InvalidMemoryAddress,
+    /// 4: a Principal block whose count is not 1.
+    UnsupportedCountOnPrincipalBlock,
+    /// 5: a code that is none of a block.
+    UnknownBlockCode,
+    /// 6: the last block is no DNA1.
+    NoDnaBlockFound,
+    /// 9: an array's size is no number.
+    InvalidArraySize,
+    /// 10: a product, or the length of a file to be written, does not fit into 64 bits.
+    ProductTooLarge,
+    /// 12: a slice is too short for the value.
+    ValueSliceTooShort,
+    /// 13: no such row, part or place.
+    NotThere,
+    /// 15: something is left of a field's name after its declarator, so that it has no width.
+    NameNotFullyRead,
+}
 
-    /// Refusal 1: the file does not begin with "BLENDER": it may be compressed.
-    pub const COMPRESSED_FILE_NOT_SUPPORTED: u64 = 1;
-
-    /// Refusal 3: a block has the address 0.
-    pub const INVALID_MEMORY_ADDRESS: u64 = 3;
-
-    /// Refusal 4: a Principal block whose count is not 1.
-    pub const UNSUPPORTED_COUNT_ON_PRINCIPAL_BLOCK: u64 = 4;
-
-    /// Refusal 5: a code that is none of a block.
-    pub const UNKNOWN_BLOCK_CODE: u64 = 5;
-
-    /// Refusal 6: the last block is no DNA1.
-    pub const NO_DNA_BLOCK_FOUND: u64 = 6;
+impl Refusal {
+    // The numbers of the refusals that carry something, as documents 01 and 02 have them: what carries it is a variant of an error enum, and C is told the number.
+    // Document 01's 2, malformed, is 16 or 17 here.
 
     /// Refusal 7, with the rows needed: the row table is too short.
     pub const BLOCK_TABLE_TOO_SHORT: u64 = 7;
@@ -75,26 +97,11 @@ impl Fault {
     /// Refusal 8, with which table and the rows needed: a table for the catalogue is too short.
     pub const CATALOGUE_TABLE_TOO_SHORT: u64 = 8;
 
-    /// Refusal 9: an array's size is no number.
-    pub const INVALID_ARRAY_SIZE: u64 = 9;
-
-    /// Refusal 10: a product, or the length of a file to be written, does not fit into 64 bits.
-    pub const PRODUCT_TOO_LARGE: u64 = 10;
-
     /// Refusal 11, with the groups: the table for dimensions is too short.
     pub const DIMENSION_TABLE_TOO_SHORT: u64 = 11;
 
-    /// Refusal 12: a slice is too short for the value.
-    pub const VALUE_SLICE_TOO_SHORT: u64 = 12;
-
-    /// Refusal 13: no such row, part or place.
-    pub const NOT_THERE: u64 = 13;
-
     /// Refusal 14, with the buckets and the rows needed: no bucket, or a table of the index is too short.
     pub const INDEX_TOO_SHORT: u64 = 14;
-
-    /// Refusal 15: something is left of a field's name after its declarator, so that it has no width.
-    pub const NAME_NOT_FULLY_READ: u64 = 15;
 
     /// Refusal 16, with the offset of the failed read's first byte: fewer bytes are left than the read wants.
     pub const CUT_SHORT: u64 = 16;
@@ -109,13 +116,63 @@ impl Fault {
     pub const NO_ROOM_IN_FORM: u64 = 19;
 
     /// The number of the refusal.
+    pub fn number(self) -> u64
+        ensures { calls.«Refusal::number» self result }
+    {
+        match self {
+            Refusal::CompressedFileNotSupported => 1,
+            Refusal::InvalidMemoryAddress => 3,
+            Refusal::UnsupportedCountOnPrincipalBlock => 4,
+            Refusal::UnknownBlockCode => 5,
+            Refusal::NoDnaBlockFound => 6,
+            Refusal::InvalidArraySize => 9,
+            Refusal::ProductTooLarge => 10,
+            Refusal::ValueSliceTooShort => 12,
+            Refusal::NotThere => 13,
+            Refusal::NameNotFullyRead => 15,
+        }
+    }
+}
+
+// By its number.
+impl fmt::Display for Refusal {
+    fn fmt<W: fmt::Write>(&self, f: &mut fmt::Formatter<W>) -> fmt::Result {
+        write!(f, "{}", self.number())
+    }
+}
+
+impl Error for Refusal {}
+
+/// Why reading stopped, and where: the offset of the failed read's first byte.
+#[derive(Clone, Copy, Debug, PartialEq, Eq)]
+pub enum Fault {
+    /// Fewer bytes are left than the read wants, or the byte that ends a run never comes.
+    Cut(usize),
+    /// Enough bytes are left, and they are not the ones that have to stand there.
+    Mark(usize),
+    /// What was read is refused.
+    Refusal(Refusal),
+}
+
+impl From<Refusal> for Fault {
+    ghost use Rattle.octets.specs.declared.Fault.{Fault};
+
+    ghost from_gives = { λ r f. f ≡ Fault.Refusal r };
+
+    fn from(r: Refusal) -> Self {
+        Fault::Refusal(r)
+    }
+}
+
+impl Fault {
+    /// The number of the refusal.
     pub fn refusal(self) -> u64
         ensures { calls.«Fault::refusal» self result }
     {
         match self {
-            Fault::Cut(_) => Fault::CUT_SHORT,
-            Fault::Mark(_) => Fault::WRONG_MARK,
-            Fault::Refusal(n) => n,
+            Fault::Cut(_) => Refusal::CUT_SHORT,
+            Fault::Mark(_) => Refusal::WRONG_MARK,
+            Fault::Refusal(r) => r.number(),
         }
     }
 
@@ -130,3 +187,15 @@ impl Fault {
         }
     }
 }
+
+// By its number and, of a cut and a wrong mark, the offset that it carries.
+impl fmt::Display for Fault {
+    fn fmt<W: fmt::Write>(&self, f: &mut fmt::Formatter<W>) -> fmt::Result {
+        match self {
+            Fault::Refusal(r) => write!(f, "{r}"),
+            _ => write!(f, "{} {}", self.refusal(), self.place()),
+        }
+    }
+}
+
+impl Error for Fault {}

@@ -5,9 +5,8 @@ use mathlib.Core.Bool.{true, false}
 use lib.Ieee.{fin, inf, binary32, binary64, of_bits, nan_bits}
 use lib.IntN.{pos, negsuc}
 use Rattle.octets.specs.declared.Endianness.TheVariants.{Little, Big}
-use Rattle.octets.specs.Ascii.{ascii}
 use Rattle.octets.specs.Paper.Paper.{accepts, integer, real, refuses}
-use Rattle.primitive.specs.Primitive.{value_of, unsigned, signed, float, named}
+use Rattle.primitive.specs.Primitive.{value_of, unsigned, signed, float}
 
 -- two bytes in either order, and a third that is ignored
 both-orders : (value_of 2 unsigned Little (1 ∷ 2 ∷ 9 ∷ []) ≡ accepts 0 (513 ∷ [])) × (value_of 2 unsigned Big (1 ∷ 2 ∷ 9 ∷ []) ≡ accepts 0 (258 ∷ []))
@@ -32,6 +31,3 @@ floats : (value_of 4 (float binary32) Little (0 ∷ 0 ∷ 192 ∷ 63 ∷ []) ≡
     × (value_of 8 (float binary64) Big (64 ∷ 0 ∷ 0 ∷ 0 ∷ 0 ∷ 0 ∷ 0 ∷ 0 ∷ []) ≡ real (fin false 1 (pos 1)))
 unfolding value_of of_bits nan_bits
 floats = (refl, refl, refl, refl, refl)
-
-name : named (ascii "ulong") ≡ record { bytes = 117 ∷ 108 ∷ 111 ∷ 110 ∷ 103 ∷ 0 ∷ 0 ∷ 0 ∷ []; len = 5 }
-name = refl

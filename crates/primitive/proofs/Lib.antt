@@ -1,5 +1,4 @@
 -- Laws about the rules, for the proofs of this crate and of those above it.
-pub mod Complement
 pub mod Values
 pub mod Lossless
 pub mod Examples

@@ -67,32 +67,6 @@ module _ (width : ℕ) (kind : ℕ → Paper) (e : Endianness) (s : List ℕ) wh
       let w = start-read width e s n next h in
       long-enough w.0 n w.1
 
-  -- where the unsigned number is refused so is any other kind, and where it is read the kind is told of that number
-  pub refused_too : (m : ℕ) → refuses m [] ≡ value_of width unsigned e s → refuses 12 [] ≡ value_of width kind e s
-  unfolding value_of
-  refused_too m h = go (ltb (length s) width) refl
-    where
-      go : (b : Bool) → ltb (length s) width ≡ b → refuses 12 [] ≡ value_of width kind e s
-      go true t = sym (held _ _ t)
-      go false t =
-          let g : refuses m [] ≡ unsigned (spelled e (take width s)) = h ∙ failed _ _ t in
-          let z : ◌≡◌ {A = ℕ} 0 1 = cc in
-          absurd (omega arith)
-
-  pub read_too : (n : ℕ) → unsigned n ≡ value_of width unsigned e s → kind n ≡ value_of width kind e s
-  unfolding value_of
-  read_too n h = go (ltb (length s) width) refl
-    where
-      go : (b : Bool) → ltb (length s) width ≡ b → kind n ≡ value_of width kind e s
-      go true t =
-          let g : unsigned n ≡ refuses 12 [] = h ∙ held _ _ t in
-          let z : ◌≡◌ {A = ℕ} 0 1 = cc in
-          absurd (omega arith)
-      go false t =
-          let g : unsigned n ≡ unsigned (spelled e (take width s)) = h ∙ failed _ _ t in
-          let q : n ≡ spelled e (take width s) = cc in
-          ap kind q ∙ sym (failed _ _ t)
-
 -- a value of a slice that is as long as it
 module _ (w : ℕ) (e : Endianness) (s : List ℕ) (at : ℕ) (h : at + w ≤ length s) where
   value_there : value_of w unsigned e (take (at + w - at) (drop at s)) ≡ unsigned (number_at e w s at)

@@ -1,313 +1,355 @@
-// Primitive values: parsers/primitive.rs of the Rust. Its trait is a named function for each kind here, and a slice that is too short,
+// Primitive values: parsers/primitive.rs of the Rust. Its trait is here too, under a named function for each kind, and a slice that is too short,
 // where the Rust panics, is refusal 12.
+ghost use Rattle.std.specs.Prelude.{◌≡◌, ℕ, ◌^◌, ◌<◌, Result};
+ghost use Rattle.octets.specs.Cursor.{width_of};
+ghost use Rattle.octets.specs.Paper.{Paper};
+ghost use Rattle.octets.specs.Refusals.{paper_answer};
+ghost use Rattle.octets.specs.Paper.Paper.{integer};
+ghost use Rattle.octets.specs.declared.cursor.Width.{Width};
+ghost use Rattle.octets.specs.declared.cursor.Width.TheVariants.{One, Two, Four, Eight};
+ghost use Rattle.std.specs.Float.Ieee.{binary32, binary64};
+ghost use Rattle.primitive.specs.Primitive as rules;
 ghost use Rattle.primitive.specs.Calls as calls;
 
-use crate::signed::{signed8, signed16, signed32, signed64};
-use octets::cursor::{Cursor, Numbered, Width};
-use octets::{Endianness, Fault};
+use octets::cursor::{Cursor, Width};
+use octets::{Endianness, Refusal};
 
-/// An unsigned number of one byte, or refusal 12.
+/// A float, or the bits of a NaN: no float of this language can be made of them.
 #[derive(Clone, Copy)]
-pub enum ValueU8 {
-    Is(u8),
-    Refused(u64),
+pub enum FloatRead<F, B> {
+    Is(F),
+    Nan(B),
 }
 
-/// An unsigned number of two bytes, or refusal 12.
-#[derive(Clone, Copy)]
-pub enum ValueU16 {
-    Is(u16),
-    Refused(u64),
+// A kind of value: how many bytes it has, how the number is told that they spell, and how a value is told.
+trait BlendPrimitive {
+    ghost WIDTH: { Width };
+
+    ghost told: { ℕ → Paper };
+
+    ghost paper: { Self → Paper };
+
+    const WIDTH: Width;
+
+    // The value whose bytes spell this number.
+    fn of_number(n: u64) -> Self
+        requires { n < 256 ^ width_of WIDTH }
+        ensures { paper result ≡ told n };
 }
 
-/// An unsigned number of four bytes, or refusal 12.
-#[derive(Clone, Copy)]
-pub enum ValueU32 {
-    Is(u32),
-    Refused(u64),
+impl BlendPrimitive for u8 {
+    ghost WIDTH = { One };
+
+    ghost told = { rules.unsigned };
+
+    ghost paper = { rules.unsigned };
+
+    const WIDTH: Width = Width::One;
+
+    fn of_number(n: u64) -> Self {
+        n as u8
+    }
 }
 
-/// An unsigned number of eight bytes, or refusal 12.
-#[derive(Clone, Copy)]
-pub enum ValueU64 {
-    Is(u64),
-    Refused(u64),
+impl BlendPrimitive for u16 {
+    ghost WIDTH = { Two };
+
+    ghost told = { rules.unsigned };
+
+    ghost paper = { rules.unsigned };
+
+    const WIDTH: Width = Width::Two;
+
+    fn of_number(n: u64) -> Self {
+        n as u16
+    }
 }
 
-/// A signed number of one byte, or refusal 12.
-#[derive(Clone, Copy)]
-pub enum ValueI8 {
-    Is(i8),
-    Refused(u64),
+impl BlendPrimitive for u32 {
+    ghost WIDTH = { Four };
+
+    ghost told = { rules.unsigned };
+
+    ghost paper = { rules.unsigned };
+
+    const WIDTH: Width = Width::Four;
+
+    fn of_number(n: u64) -> Self {
+        n as u32
+    }
 }
 
-/// A signed number of two bytes, or refusal 12.
-#[derive(Clone, Copy)]
-pub enum ValueI16 {
-    Is(i16),
-    Refused(u64),
+impl BlendPrimitive for u64 {
+    ghost WIDTH = { Eight };
+
+    ghost told = { rules.unsigned };
+
+    ghost paper = { rules.unsigned };
+
+    const WIDTH: Width = Width::Eight;
+
+    fn of_number(n: u64) -> Self {
+        n
+    }
 }
 
-/// A signed number of four bytes, or refusal 12.
-#[derive(Clone, Copy)]
-pub enum ValueI32 {
-    Is(i32),
-    Refused(u64),
+impl BlendPrimitive for i8 {
+    ghost WIDTH = { One };
+
+    ghost told = { rules.signed 8 };
+
+    ghost paper = { integer };
+
+    const WIDTH: Width = Width::One;
+
+    fn of_number(n: u64) -> Self {
+        (n as u8).cast_signed()
+    }
 }
 
-/// A signed number of eight bytes, or refusal 12.
-#[derive(Clone, Copy)]
-pub enum ValueI64 {
-    Is(i64),
-    Refused(u64),
+impl BlendPrimitive for i16 {
+    ghost WIDTH = { Two };
+
+    ghost told = { rules.signed 16 };
+
+    ghost paper = { integer };
+
+    const WIDTH: Width = Width::Two;
+
+    fn of_number(n: u64) -> Self {
+        (n as u16).cast_signed()
+    }
 }
 
-/// A NaN's bits stand in a case of their own: no float of this language can be made of them.
-#[derive(Clone, Copy)]
-pub enum ValueF32 {
-    Is(f32),
-    Nan(u32),
-    Refused(u64),
+impl BlendPrimitive for i32 {
+    ghost WIDTH = { Four };
+
+    ghost told = { rules.signed 32 };
+
+    ghost paper = { integer };
+
+    const WIDTH: Width = Width::Four;
+
+    fn of_number(n: u64) -> Self {
+        (n as u32).cast_signed()
+    }
 }
 
-/// A NaN's bits stand in a case of their own: no float of this language can be made of them.
-#[derive(Clone, Copy)]
-pub enum ValueF64 {
-    Is(f64),
-    Nan(u64),
-    Refused(u64),
+impl BlendPrimitive for i64 {
+    ghost WIDTH = { Eight };
+
+    ghost told = { rules.signed 64 };
+
+    ghost paper = { integer };
+
+    const WIDTH: Width = Width::Eight;
+
+    fn of_number(n: u64) -> Self {
+        n.cast_signed()
+    }
 }
+
+impl BlendPrimitive for FloatRead<f32, u32> {
+    ghost WIDTH = { Four };
+
+    ghost told = { rules.float binary32 };
+
+    ghost paper = { rules.paper_float };
+
+    const WIDTH: Width = Width::Four;
+
+    fn of_number(n: u64) -> Self {
+        let bits = n as u32;
+        if 0x7f80_0000 < bits % 0x8000_0000 {
+            FloatRead::Nan(bits)
+        } else {
+            FloatRead::Is(f32::from_bits(bits))
+        }
+    }
+}
+
+impl BlendPrimitive for FloatRead<f64, u64> {
+    ghost WIDTH = { Eight };
+
+    ghost told = { rules.float binary64 };
+
+    ghost paper = { rules.paper_float };
+
+    const WIDTH: Width = Width::Eight;
+
+    fn of_number(n: u64) -> Self {
+        if 0x7ff0_0000_0000_0000 < n % 0x8000_0000_0000_0000 {
+            FloatRead::Nan(n)
+        } else {
+            FloatRead::Is(f64::from_bits(n))
+        }
+    }
+}
+
+// The value of a kind that a slice begins with.
+fn parse<T: BlendPrimitive>(slice: &[u8], endianness: Endianness) -> Result<T, Refusal>
+    ensures { paper_answer T.paper result ≡ rules.value_of (width_of T.WIDTH) T.told endianness slice.now }
+{
+    let Ok((n, _)) = Cursor::new(0).number(slice, T::WIDTH, endianness) else {
+        return Err(Refusal::ValueSliceTooShort);
+    };
+    Ok(T::of_number(n))
+}
+
+// A name for each kind, as the Rust has them and C is told them: each is `parse` at a type.
 
 /// The unsigned number of one byte that a slice begins with.
-pub fn parse_u8(slice: &[u8], endianness: Endianness) -> ValueU8
+pub fn parse_u8(slice: &[u8], endianness: Endianness) -> Result<u8, Refusal>
     ensures { calls.primitive::parse_u8 slice.now endianness result }
 {
-    let start = Cursor { at: 0 };
-    match start.number(slice, Width::One, endianness) {
-        Numbered::Is(n, _) => ValueU8::Is(n as u8),
-        Numbered::Stopped(_) => ValueU8::Refused(Fault::VALUE_SLICE_TOO_SHORT),
-    }
+    parse::<u8>(slice, endianness)
 }
 
 /// The unsigned number of two bytes that a slice begins with.
-pub fn parse_u16(slice: &[u8], endianness: Endianness) -> ValueU16
+pub fn parse_u16(slice: &[u8], endianness: Endianness) -> Result<u16, Refusal>
     ensures { calls.primitive::parse_u16 slice.now endianness result }
 {
-    let start = Cursor { at: 0 };
-    match start.number(slice, Width::Two, endianness) {
-        Numbered::Is(n, _) => ValueU16::Is(n as u16),
-        Numbered::Stopped(_) => ValueU16::Refused(Fault::VALUE_SLICE_TOO_SHORT),
-    }
+    parse::<u16>(slice, endianness)
 }
 
 /// The unsigned number of four bytes that a slice begins with.
-pub fn parse_u32(slice: &[u8], endianness: Endianness) -> ValueU32
+pub fn parse_u32(slice: &[u8], endianness: Endianness) -> Result<u32, Refusal>
     ensures { calls.primitive::parse_u32 slice.now endianness result }
 {
-    let start = Cursor { at: 0 };
-    match start.number(slice, Width::Four, endianness) {
-        Numbered::Is(n, _) => ValueU32::Is(n as u32),
-        Numbered::Stopped(_) => ValueU32::Refused(Fault::VALUE_SLICE_TOO_SHORT),
-    }
+    parse::<u32>(slice, endianness)
 }
 
 /// The unsigned number of eight bytes that a slice begins with.
-pub fn parse_u64(slice: &[u8], endianness: Endianness) -> ValueU64
+pub fn parse_u64(slice: &[u8], endianness: Endianness) -> Result<u64, Refusal>
     ensures { calls.primitive::parse_u64 slice.now endianness result }
 {
-    let start = Cursor { at: 0 };
-    match start.number(slice, Width::Eight, endianness) {
-        Numbered::Is(n, _) => ValueU64::Is(n),
-        Numbered::Stopped(_) => ValueU64::Refused(Fault::VALUE_SLICE_TOO_SHORT),
-    }
+    parse::<u64>(slice, endianness)
 }
 
-/// A character is its byte.
-pub fn parse_char(slice: &[u8], endianness: Endianness) -> ValueU8
+/// The character that a slice begins with: its byte.
+pub fn parse_char(slice: &[u8], endianness: Endianness) -> Result<u8, Refusal>
     ensures { calls.primitive::parse_char slice.now endianness result }
 {
-    parse_u8(slice, endianness)
+    parse::<u8>(slice, endianness)
 }
 
 /// The signed number of one byte that a slice begins with.
-pub fn parse_i8(slice: &[u8], endianness: Endianness) -> ValueI8
+pub fn parse_i8(slice: &[u8], endianness: Endianness) -> Result<i8, Refusal>
     ensures { calls.primitive::parse_i8 slice.now endianness result }
 {
-    let ValueU8::Is(n) = parse_u8(slice, endianness) else {
-        return ValueI8::Refused(Fault::VALUE_SLICE_TOO_SHORT);
-    };
-    ValueI8::Is(signed8(n))
+    parse::<i8>(slice, endianness)
 }
 
 /// The signed number of two bytes that a slice begins with.
-pub fn parse_i16(slice: &[u8], endianness: Endianness) -> ValueI16
+pub fn parse_i16(slice: &[u8], endianness: Endianness) -> Result<i16, Refusal>
     ensures { calls.primitive::parse_i16 slice.now endianness result }
 {
-    let ValueU16::Is(n) = parse_u16(slice, endianness) else {
-        return ValueI16::Refused(Fault::VALUE_SLICE_TOO_SHORT);
-    };
-    ValueI16::Is(signed16(n))
+    parse::<i16>(slice, endianness)
 }
 
 /// The signed number of four bytes that a slice begins with.
-pub fn parse_i32(slice: &[u8], endianness: Endianness) -> ValueI32
+pub fn parse_i32(slice: &[u8], endianness: Endianness) -> Result<i32, Refusal>
     ensures { calls.primitive::parse_i32 slice.now endianness result }
 {
-    let ValueU32::Is(n) = parse_u32(slice, endianness) else {
-        return ValueI32::Refused(Fault::VALUE_SLICE_TOO_SHORT);
-    };
-    ValueI32::Is(signed32(n))
+    parse::<i32>(slice, endianness)
 }
 
 /// The signed number of eight bytes that a slice begins with.
-pub fn parse_i64(slice: &[u8], endianness: Endianness) -> ValueI64
+pub fn parse_i64(slice: &[u8], endianness: Endianness) -> Result<i64, Refusal>
     ensures { calls.primitive::parse_i64 slice.now endianness result }
 {
-    let ValueU64::Is(n) = parse_u64(slice, endianness) else {
-        return ValueI64::Refused(Fault::VALUE_SLICE_TOO_SHORT);
-    };
-    ValueI64::Is(signed64(n))
+    parse::<i64>(slice, endianness)
 }
 
 /// The float of four bytes that a slice begins with.
-pub fn parse_f32(slice: &[u8], endianness: Endianness) -> ValueF32
+pub fn parse_f32(slice: &[u8], endianness: Endianness) -> Result<FloatRead<f32, u32>, Refusal>
     ensures { calls.primitive::parse_f32 slice.now endianness result }
 {
-    let ValueU32::Is(n) = parse_u32(slice, endianness) else {
-        return ValueF32::Refused(Fault::VALUE_SLICE_TOO_SHORT);
-    };
-    if 0x7f80_0000 < n % 0x8000_0000 {
-        return ValueF32::Nan(n);
-    }
-    ValueF32::Is(f32::from_bits(n))
+    parse::<FloatRead<f32, u32>>(slice, endianness)
 }
 
 /// The float of eight bytes that a slice begins with.
-pub fn parse_f64(slice: &[u8], endianness: Endianness) -> ValueF64
+pub fn parse_f64(slice: &[u8], endianness: Endianness) -> Result<FloatRead<f64, u64>, Refusal>
     ensures { calls.primitive::parse_f64 slice.now endianness result }
 {
-    let ValueU64::Is(n) = parse_u64(slice, endianness) else {
-        return ValueF64::Refused(Fault::VALUE_SLICE_TOO_SHORT);
-    };
-    if 0x7ff0_0000_0000_0000 < n % 0x8000_0000_0000_0000 {
-        return ValueF64::Nan(n);
-    }
-    ValueF64::Is(f64::from_bits(n))
+    parse::<FloatRead<f64, u64>>(slice, endianness)
 }
 
-/// A kind's name in a catalogue: its bytes, zeros after them, and how many there are.
-#[derive(Clone, Copy)]
-pub struct Name {
-    pub bytes: [u8; 8],
-    pub len: usize,
-}
+// A name for each kind, as the Rust has them: no more than a text each.
 
 /// Blender's name for a character.
-pub fn blender_name_char() -> Name
-    ensures { calls.primitive::blender_name_char result }
+pub fn blender_name_char() -> &'static str
+    ensures { calls.primitive::blender_name_char result.now }
 {
-    Name {
-        bytes: [b'c', b'h', b'a', b'r', 0, 0, 0, 0],
-        len: 4,
-    }
+    "char"
 }
 
 /// Blender's name for a signed number of one byte.
-pub fn blender_name_i8() -> Name
-    ensures { calls.primitive::blender_name_i8 result }
+pub fn blender_name_i8() -> &'static str
+    ensures { calls.primitive::blender_name_i8 result.now }
 {
-    Name {
-        bytes: [b'c', b'h', b'a', b'r', 0, 0, 0, 0],
-        len: 4,
-    }
+    "char"
 }
 
 /// Blender's name for an unsigned number of one byte.
-pub fn blender_name_u8() -> Name
-    ensures { calls.primitive::blender_name_u8 result }
+pub fn blender_name_u8() -> &'static str
+    ensures { calls.primitive::blender_name_u8 result.now }
 {
-    Name {
-        bytes: [b'u', b'c', b'h', b'a', b'r', 0, 0, 0],
-        len: 5,
-    }
+    "uchar"
 }
 
 /// Blender's name for an unsigned number of two bytes.
-pub fn blender_name_u16() -> Name
-    ensures { calls.primitive::blender_name_u16 result }
+pub fn blender_name_u16() -> &'static str
+    ensures { calls.primitive::blender_name_u16 result.now }
 {
-    Name {
-        bytes: [b'u', b's', b'h', b'o', b'r', b't', 0, 0],
-        len: 6,
-    }
+    "ushort"
 }
 
 /// Blender's name for a signed number of two bytes.
-pub fn blender_name_i16() -> Name
-    ensures { calls.primitive::blender_name_i16 result }
+pub fn blender_name_i16() -> &'static str
+    ensures { calls.primitive::blender_name_i16 result.now }
 {
-    Name {
-        bytes: [b's', b'h', b'o', b'r', b't', 0, 0, 0],
-        len: 5,
-    }
+    "short"
 }
 
 /// Blender's name for a signed number of four bytes.
-pub fn blender_name_i32() -> Name
-    ensures { calls.primitive::blender_name_i32 result }
+pub fn blender_name_i32() -> &'static str
+    ensures { calls.primitive::blender_name_i32 result.now }
 {
-    Name {
-        bytes: [b'i', b'n', b't', 0, 0, 0, 0, 0],
-        len: 3,
-    }
+    "int"
 }
 
 /// Blender's name for an unsigned number of four bytes.
-pub fn blender_name_u32() -> Name
-    ensures { calls.primitive::blender_name_u32 result }
+pub fn blender_name_u32() -> &'static str
+    ensures { calls.primitive::blender_name_u32 result.now }
 {
-    Name {
-        bytes: [b'u', b'l', b'o', b'n', b'g', 0, 0, 0],
-        len: 5,
-    }
+    "ulong"
 }
 
 /// Blender's name for a float of four bytes.
-pub fn blender_name_f32() -> Name
-    ensures { calls.primitive::blender_name_f32 result }
+pub fn blender_name_f32() -> &'static str
+    ensures { calls.primitive::blender_name_f32 result.now }
 {
-    Name {
-        bytes: [b'f', b'l', b'o', b'a', b't', 0, 0, 0],
-        len: 5,
-    }
+    "float"
 }
 
 /// Blender's name for a float of eight bytes.
-pub fn blender_name_f64() -> Name
-    ensures { calls.primitive::blender_name_f64 result }
+pub fn blender_name_f64() -> &'static str
+    ensures { calls.primitive::blender_name_f64 result.now }
 {
-    Name {
-        bytes: [b'd', b'o', b'u', b'b', b'l', b'e', 0, 0],
-        len: 6,
-    }
+    "double"
 }
 
 /// Blender's name for an unsigned number of eight bytes.
-pub fn blender_name_u64() -> Name
-    ensures { calls.primitive::blender_name_u64 result }
+pub fn blender_name_u64() -> &'static str
+    ensures { calls.primitive::blender_name_u64 result.now }
 {
-    Name {
-        bytes: [b'u', b'i', b'n', b't', b'6', b'4', b'_', b't'],
-        len: 8,
-    }
+    "uint64_t"
 }
 
 /// Blender's name for a signed number of eight bytes.
-pub fn blender_name_i64() -> Name
-    ensures { calls.primitive::blender_name_i64 result }
+pub fn blender_name_i64() -> &'static str
+    ensures { calls.primitive::blender_name_i64 result.now }
 {
-    Name {
-        bytes: [b'i', b'n', b't', b'6', b'4', b'_', b't', 0],
-        len: 7,
-    }
+    "int64_t"
 }

@@ -1,5 +1,6 @@
 -- Every public call: that it keeps its contract is the theorem that the check has of its routine, whose contract is this one by computation; that the contract
 -- leaves one outcome follows from its answer's paper losing nothing.
+use Rattle.std.specs.Prelude.{Result}
 use Prim.Native.Nat.{ℕ, ◌/◌}
 use mathlib.Core.List.{List}
 use mathlib.Core.Path.{◌≡◌, refl, sym, ◌∙◌, ap}
@@ -26,7 +27,8 @@ use Rattle.octets.specs.Reader.{run}
 use Rattle.octets.specs.Tables.{written}
 use Rattle.field.specs.Declarators.{declared, parsed_as}
 use Rattle.dna.specs.Catalogue.{catalogue, rooms, read_as as catalogueAs}
-use Rattle.blend.specs.declared.blend.BlendAnswer.{BlendAnswer}
+use Rattle.blend.specs.declared.blend.RawBlend.{RawBlend}
+use Rattle.blend.specs.declared.blend.BlendError.{BlendError}
 use Rattle.walker.specs.declared.Place.{Place}
 use Rattle.header.specs.Calls.{FileFormat::header_len, FileFormat::block_header_len}
 use Rattle.blend.specs.Calls.{«blend::blend»}
@@ -40,7 +42,7 @@ use Rattle.exports.specs.declared.BlendIndex.{BlendIndex}
 use Rattle.exports.specs.declared.BlendWritten.{BlendWritten}
 use Rattle.exports.specs.Calls.{blend_read, blend_catalogue, blend_field, blend_index, blend_write}
 use Rattle.index.specs.Index.{indexed_as}
-use Rattle.writer.specs.declared.writer.WriteAnswer.{WriteAnswer}
+use Rattle.writer.specs.declared.writer.WriteError.{WriteError}
 use Rattle.writer.specs.Writer.{write_of, paper_write, output_after}
 use Rattle.exports.specs.Exports.{refusal, order_of, field_out, header_of}
 use Rattle.demands.specs.declared.Two.{Two}
@@ -61,20 +63,20 @@ use Rattle.writer.proofs as writer
 use Rattle.held.proofs as held
 use Rattle.exports.proofs as exports
 use Rattle.demands.proofs as demands
-use Rattle.octets.proofs.Lossless.{at_one, whole-numbered, whole-moved, whole-counted, whole-begun}
-use Rattle.primitive.proofs.Lossless.{whole_u8, whole_u16, whole_u32, whole_u64, whole_i8, whole_i16, whole_i32, whole_i64, whole_f32, whole_f64}
-use Rattle.field.proofs.Lossless.{whole-field, whole-function, whole-width}
+use Rattle.octets.proofs.Lossless.{at_one, whole-found, whole-moved, whole-begun}
+use Rattle.primitive.proofs.Lossless.{whole_unsigned, whole_signed, whole_float}
+use Rattle.field.proofs.Lossless.{whole-field, whole-scanned, whole-function, whole-width}
 use Rattle.dna.proofs.Lossless.{one_filling, whole-counted as wholeCountedDna}
-use Rattle.block.proofs.Lossless.{whole_kind, whole-block_header}
+use Rattle.block.proofs.Lossless.{whole_kind}
 use Rattle.blend.proofs.Lossless.{whole-blend}
-use Rattle.header.proofs.Lossless.{whole-pointer_size, whole-endianness, whole-version, whole-header}
+use Rattle.header.proofs.Lossless.{whole-header}
 use Rattle.walker.proofs.Lossless.{whole-step}
-use Rattle.index.proofs.Lossless.{whole_indexed, whole-found}
+use Rattle.index.proofs.Lossless.{whole_indexed, whole-found as whole-found-index}
 use Rattle.runtime.proofs.Lossless.{whole-view, whole-pointer, whole_code}
 use Rattle.held.specs.declared.Walker.{Walker}
 use Rattle.promises.specs.Keeps.{Says, Keeps, Holds}
 use Rattle.promises.specs.Calls.{PublicCall, Refused, Nonzero, public_call}
-use Rattle.promises.specs.Calls.PublicCall.{octets::PointerSize::bytes_num, «octets::Fault::refusal», «octets::Fault::place», octets::cursor::Width::bytes_num, octets::cursor::stands_at, «octets::cursor::before», «octets::cursor::Cursor::new», «octets::cursor::Cursor::number», «octets::cursor::Cursor::skip», «octets::cursor::Cursor::bytes», «octets::cursor::Cursor::part», «octets::cursor::Cursor::mark», «octets::cursor::Cursor::begins», «octets::cursor::Cursor::until», «octets::cursor::Cursor::string», primitive::primitive::parse_u8, primitive::primitive::parse_u16, primitive::primitive::parse_u32, primitive::primitive::parse_u64, primitive::primitive::parse_char, primitive::primitive::parse_i8, primitive::primitive::parse_i16, primitive::primitive::parse_i32, primitive::primitive::parse_i64, primitive::primitive::parse_f32, primitive::primitive::parse_f64, primitive::primitive::blender_name_char, primitive::primitive::blender_name_i8, primitive::primitive::blender_name_u8, primitive::primitive::blender_name_u16, primitive::primitive::blender_name_i16, primitive::primitive::blender_name_i32, primitive::primitive::blender_name_u32, primitive::primitive::blender_name_f32, primitive::primitive::blender_name_f64, primitive::primitive::blender_name_u64, primitive::primitive::blender_name_i64, field::field::fn_pointer, field::field::scan_field, field::field::parse_field, «field::field::width», dna::dna::dna_counts, «dna::dna::dna», header::FileFormat::header_len, header::FileFormat::block_header_len, «header::Header::new», «block::BlockHeader::new», block::Kind::of_code, «block::About::new», «block::Kind::about», header::blend::pointer_size, «header::blend::endianness», «header::blend::version», «header::blend::header», header::blend::refusal_of, block::blend::block_header_code, block::blend::block_header, block::blend::header_in, blend::blend::boundary_at, «blend::blend::blend», «walker::Place::start», «walker::Place::step», «runtime::runtime::view», runtime::runtime::view_part, «runtime::runtime::matches», runtime::runtime::get_ptr, «runtime::runtime::code», «index::index::build», «index::index::find», writable::writable::row_at, writable::writable::bytes_needed, «writer::writer::write», held::step_at, «held::over», «held::next», «held::moved», held::step_from, held::row_is, held::find_row, held::find_in, exports::blend_header, exports::blend_read, exports::blend_step, exports::blend_catalogue, exports::blend_field, exports::blend_width, exports::blend_view, exports::blend_lookup, exports::blend_index, exports::blend_find, exports::blend_write, exports::blend_u8, exports::blend_u16, exports::blend_u32, exports::blend_u64, «demands::read», demands::read_two}
+use Rattle.promises.specs.Calls.PublicCall.{octets::PointerSize::bytes_num, «octets::Refusal::number», «octets::Fault::refusal», «octets::Fault::place», octets::cursor::Width::bytes_num, octets::cursor::stands_at, «octets::cursor::before», «octets::cursor::Cursor::new», «octets::cursor::Cursor::number», «octets::cursor::Cursor::skip», «octets::cursor::Cursor::bytes», «octets::cursor::Cursor::part», «octets::cursor::Cursor::mark», «octets::cursor::Cursor::begins», «octets::cursor::Cursor::until», «octets::cursor::Cursor::string», primitive::primitive::parse_u8, primitive::primitive::parse_u16, primitive::primitive::parse_u32, primitive::primitive::parse_u64, primitive::primitive::parse_char, primitive::primitive::parse_i8, primitive::primitive::parse_i16, primitive::primitive::parse_i32, primitive::primitive::parse_i64, primitive::primitive::parse_f32, primitive::primitive::parse_f64, primitive::primitive::blender_name_char, primitive::primitive::blender_name_i8, primitive::primitive::blender_name_u8, primitive::primitive::blender_name_u16, primitive::primitive::blender_name_i16, primitive::primitive::blender_name_i32, primitive::primitive::blender_name_u32, primitive::primitive::blender_name_f32, primitive::primitive::blender_name_f64, primitive::primitive::blender_name_u64, primitive::primitive::blender_name_i64, field::field::fn_pointer, field::field::scan_field, field::field::parse_field, «field::field::width», «dna::dna::DnaTable::number», dna::dna::dna_counts, «dna::dna::dna», header::FileFormat::header_len, header::FileFormat::block_header_len, «header::Header::new», «block::BlockHeader::new», block::Kind::of_code, «block::About::new», «block::Kind::about», header::blend::pointer_size, «header::blend::endianness», «header::blend::version», «header::blend::header», header::blend::refusal_of, block::blend::block_header_code, block::blend::block_header, block::blend::header_in, blend::blend::boundary_at, «blend::blend::blend», «walker::Place::start», «walker::Place::step», «runtime::runtime::view», runtime::runtime::view_part, «runtime::runtime::matches», runtime::runtime::get_ptr, «runtime::runtime::code», «index::index::build», «index::index::find», writable::writable::row_at, writable::writable::bytes_needed, «writer::writer::write», held::step_at, «held::over», «held::next», «held::moved», held::step_from, held::row_is, held::find_row, held::find_in, exports::blend_header, exports::blend_read, exports::blend_step, exports::blend_catalogue, exports::blend_field, exports::blend_width, exports::blend_view, exports::blend_lookup, exports::blend_index, exports::blend_find, exports::blend_write, exports::blend_u8, exports::blend_u16, exports::blend_u32, exports::blend_u64, «demands::read», demands::read_two}
 
 -- of a function whose contract has a second clause besides, the first is kept
 module _ (T : Ended) (name : Callee) (code : Code) (says : Says T)
@@ -101,7 +103,7 @@ lent : (t u : List ℕ) → t ≡ u → ◌≡◌ {A = Lent} (tt, (t, tt)) (tt, 
 lent t u e = ap {B = Lent} (λ (l : List ℕ). (tt, (l, tt))) e
 
 one-two : (r q : Two) → r.one ≡ q.one → r.other ≡ q.other → r ≡ q
-one-two r q e f = ap (λ (x : BlendAnswer). record { one = x; other = r.other }) e ∙ ap (λ (x : BlendAnswer). record { one = q.one; other = x }) f
+one-two r q e f = ap (λ (x : Result RawBlend BlendError). record { one = x; other = r.other }) e ∙ ap (λ (x : Result RawBlend BlendError). record { one = q.one; other = x }) f
 
 abbrev LentTwo : Type 0
 LentTwo = Unit {0} × (List ℕ × (Unit {0} × (List ℕ × Unit {0})))
@@ -137,7 +139,7 @@ lent_written o p e = rw e refl
 unwritten : (told rule : Paper) (new t t' : List ℕ) → told ≡ rule → t' ≡ written rule new t → Refused told → t' ≡ t
 unwritten told rule new t t' e w r = w ∙ ap (λ (p : Paper). written p new t) (sym e ∙ r.2)
 
-blend-unwritten : (s t : List ℕ) (r : BlendAnswer) (t' : List ℕ) → «blend::blend» s t r t' → Refused (paper_blend r) → t' ≡ t
+blend-unwritten : (s t : List ℕ) (r : Result RawBlend BlendError) (t' : List ℕ) → «blend::blend» s t r t' → Refused (paper_blend r) → t' ≡ t
 blend-unwritten s t r t' x f = unwritten _ _ _ t t' x.0 x.1 f
 
 -- the same by a struct's number of the refusal
@@ -183,31 +185,32 @@ write-unwritten edition bytes order major minor t rows s out r out' x z =
 
 pub every : (c : PublicCall) → Holds (public_call c)
 every octets::PointerSize::bytes_num = record { keeps = first-kept octets_contracts.PointerSize.bytes_num.ended (fn₀ "octets::PointerSize::bytes_num") _ (λ κs a r e. PointerSize::bytes_num a.0 r) (λ M 𝓤 𝓛 𝓜 𝓡 κs a r e. octets_contracts.PointerSize.bytes_num.ensures-constants 𝓛 κs 𝓜.mem 𝓡.returns a.0 (record { entry = a.0; exit = e.0 }) r) (λ M. octets.PointerSize.bytes_num.Met.met); one = λ κs a r q ws vs x y. (x ∙ sym y, refl) }
+every «octets::Refusal::number» = record { keeps = λ M. octets.Refusal.number.Met.met; one = λ κs a r q ws vs x y. (x ∙ sym y, refl) }
 every «octets::Fault::refusal» = record { keeps = λ M. octets.Fault.refusal.Met.met; one = λ κs a r q ws vs x y. (x ∙ sym y, refl) }
 every «octets::Fault::place» = record { keeps = λ M. octets.Fault.place.Met.met; one = λ κs a r q ws vs x y. (x ∙ sym y, refl) }
 every octets::cursor::Width::bytes_num = record { keeps = λ M. octets.cursor.Width.bytes_num.Met.met; one = λ κs a r q ws vs x y. (x ∙ sym y, refl) }
 every octets::cursor::stands_at = record { keeps = λ M. octets.cursor.stands_at.Met.met; one = λ κs a r q ws vs x y. (x ∙ sym y, refl) }
 every «octets::cursor::before» = record { keeps = λ M. octets.cursor.before.Met.met; one = λ κs a r q ws vs x y. (x ∙ sym y, refl) }
 every «octets::cursor::Cursor::new» = record { keeps = λ M. octets.cursor.Cursor.new.Met.met; one = λ κs a r q ws vs x y. (at_one r q (x ∙ sym y), refl) }
-every «octets::cursor::Cursor::number» = record { keeps = λ M. octets.cursor.Cursor.number.Met.met; one = λ κs a r q ws vs x y. (whole-numbered r q (x ∙ sym y), refl) }
+every «octets::cursor::Cursor::number» = record { keeps = λ M. octets.cursor.Cursor.number.Met.met; one = λ κs a r q ws vs x y. (whole-found r q (x ∙ sym y), refl) }
 every «octets::cursor::Cursor::skip» = record { keeps = λ M. octets.cursor.Cursor.skip.Met.met; one = λ κs a r q ws vs x y. (whole-moved r q (x ∙ sym y), refl) }
 every «octets::cursor::Cursor::bytes» = record { keeps = λ M. octets.cursor.Cursor.bytes.Met.met; one = λ κs a r q ws vs x y. (whole-moved r q (x ∙ sym y), refl) }
 every «octets::cursor::Cursor::part» = record { keeps = λ M. octets.cursor.Cursor.part.Met.met; one = λ κs a r q ws vs x y. (x ∙ sym y, refl) }
 every «octets::cursor::Cursor::mark» = record { keeps = λ M. octets.cursor.Cursor.mark.Met.met; one = λ κs a r q ws vs x y. (whole-moved r q (x ∙ sym y), refl) }
-every «octets::cursor::Cursor::begins» = record { keeps = λ M. octets.cursor.Cursor.begins.Met.met; one = λ κs a r q ws vs x y. (whole-begun r q (x ∙ sym y), refl) }
-every «octets::cursor::Cursor::until» = record { keeps = λ M. octets.cursor.Cursor.until.Met.met; one = λ κs a r q ws vs x y. (whole-counted r q (x ∙ sym y), refl) }
-every «octets::cursor::Cursor::string» = record { keeps = λ M. octets.cursor.Cursor.string.Met.met; one = λ κs a r q ws vs x y. (whole-counted r q (x ∙ sym y), refl) }
-every primitive::primitive::parse_u8 = record { keeps = λ M. primitive.primitive.parse_u8.Met.met; one = λ κs a r q ws vs x y. (whole_u8 r q (x ∙ sym y), refl) }
-every primitive::primitive::parse_u16 = record { keeps = λ M. primitive.primitive.parse_u16.Met.met; one = λ κs a r q ws vs x y. (whole_u16 r q (x ∙ sym y), refl) }
-every primitive::primitive::parse_u32 = record { keeps = λ M. primitive.primitive.parse_u32.Met.met; one = λ κs a r q ws vs x y. (whole_u32 r q (x ∙ sym y), refl) }
-every primitive::primitive::parse_u64 = record { keeps = λ M. primitive.primitive.parse_u64.Met.met; one = λ κs a r q ws vs x y. (whole_u64 r q (x ∙ sym y), refl) }
-every primitive::primitive::parse_char = record { keeps = λ M. primitive.primitive.parse_char.Met.met; one = λ κs a r q ws vs x y. (whole_u8 r q (x ∙ sym y), refl) }
-every primitive::primitive::parse_i8 = record { keeps = λ M. primitive.primitive.parse_i8.Met.met; one = λ κs a r q ws vs x y. (whole_i8 r q (x ∙ sym y), refl) }
-every primitive::primitive::parse_i16 = record { keeps = λ M. primitive.primitive.parse_i16.Met.met; one = λ κs a r q ws vs x y. (whole_i16 r q (x ∙ sym y), refl) }
-every primitive::primitive::parse_i32 = record { keeps = λ M. primitive.primitive.parse_i32.Met.met; one = λ κs a r q ws vs x y. (whole_i32 r q (x ∙ sym y), refl) }
-every primitive::primitive::parse_i64 = record { keeps = λ M. primitive.primitive.parse_i64.Met.met; one = λ κs a r q ws vs x y. (whole_i64 r q (x ∙ sym y), refl) }
-every primitive::primitive::parse_f32 = record { keeps = λ M. primitive.primitive.parse_f32.Met.met; one = λ κs a r q ws vs x y. (whole_f32 r q (x ∙ sym y), refl) }
-every primitive::primitive::parse_f64 = record { keeps = λ M. primitive.primitive.parse_f64.Met.met; one = λ κs a r q ws vs x y. (whole_f64 r q (x ∙ sym y), refl) }
+every «octets::cursor::Cursor::begins» = record { keeps = λ M. octets.cursor.Cursor.begins.Met.met; one = λ κs a r q ws vs x y. (whole-begun a.0 r q (x ∙ sym y), refl) }
+every «octets::cursor::Cursor::until» = record { keeps = λ M. octets.cursor.Cursor.until.Met.met; one = λ κs a r q ws vs x y. (whole-found r q (x ∙ sym y), refl) }
+every «octets::cursor::Cursor::string» = record { keeps = λ M. octets.cursor.Cursor.string.Met.met; one = λ κs a r q ws vs x y. (whole-found r q (x ∙ sym y), refl) }
+every primitive::primitive::parse_u8 = record { keeps = λ M. primitive.primitive.parse_u8.Met.met; one = λ κs a r q ws vs x y. (whole_unsigned r q (x ∙ sym y), refl) }
+every primitive::primitive::parse_u16 = record { keeps = λ M. primitive.primitive.parse_u16.Met.met; one = λ κs a r q ws vs x y. (whole_unsigned r q (x ∙ sym y), refl) }
+every primitive::primitive::parse_u32 = record { keeps = λ M. primitive.primitive.parse_u32.Met.met; one = λ κs a r q ws vs x y. (whole_unsigned r q (x ∙ sym y), refl) }
+every primitive::primitive::parse_u64 = record { keeps = λ M. primitive.primitive.parse_u64.Met.met; one = λ κs a r q ws vs x y. (whole_unsigned r q (x ∙ sym y), refl) }
+every primitive::primitive::parse_char = record { keeps = λ M. primitive.primitive.parse_char.Met.met; one = λ κs a r q ws vs x y. (whole_unsigned r q (x ∙ sym y), refl) }
+every primitive::primitive::parse_i8 = record { keeps = λ M. primitive.primitive.parse_i8.Met.met; one = λ κs a r q ws vs x y. (whole_signed r q (x ∙ sym y), refl) }
+every primitive::primitive::parse_i16 = record { keeps = λ M. primitive.primitive.parse_i16.Met.met; one = λ κs a r q ws vs x y. (whole_signed r q (x ∙ sym y), refl) }
+every primitive::primitive::parse_i32 = record { keeps = λ M. primitive.primitive.parse_i32.Met.met; one = λ κs a r q ws vs x y. (whole_signed r q (x ∙ sym y), refl) }
+every primitive::primitive::parse_i64 = record { keeps = λ M. primitive.primitive.parse_i64.Met.met; one = λ κs a r q ws vs x y. (whole_signed r q (x ∙ sym y), refl) }
+every primitive::primitive::parse_f32 = record { keeps = λ M. primitive.primitive.parse_f32.Met.met; one = λ κs a r q ws vs x y. (whole_float r q (x ∙ sym y), refl) }
+every primitive::primitive::parse_f64 = record { keeps = λ M. primitive.primitive.parse_f64.Met.met; one = λ κs a r q ws vs x y. (whole_float r q (x ∙ sym y), refl) }
 every primitive::primitive::blender_name_char = record { keeps = λ M. primitive.primitive.blender_name_char.Met.met; one = λ κs a r q ws vs x y. (x ∙ sym y, refl) }
 every primitive::primitive::blender_name_i8 = record { keeps = λ M. primitive.primitive.blender_name_i8.Met.met; one = λ κs a r q ws vs x y. (x ∙ sym y, refl) }
 every primitive::primitive::blender_name_u8 = record { keeps = λ M. primitive.primitive.blender_name_u8.Met.met; one = λ κs a r q ws vs x y. (x ∙ sym y, refl) }
@@ -220,7 +223,7 @@ every primitive::primitive::blender_name_f64 = record { keeps = λ M. primitive.
 every primitive::primitive::blender_name_u64 = record { keeps = λ M. primitive.primitive.blender_name_u64.Met.met; one = λ κs a r q ws vs x y. (x ∙ sym y, refl) }
 every primitive::primitive::blender_name_i64 = record { keeps = λ M. primitive.primitive.blender_name_i64.Met.met; one = λ κs a r q ws vs x y. (x ∙ sym y, refl) }
 every field::field::fn_pointer = record { keeps = λ M. field.field.fn_pointer.Met.met; one = λ κs a r q ws vs x y. (whole-function r q (x ∙ sym y), refl) }
-every field::field::scan_field = record { keeps = λ M. field.field.scan_field.Met.met; one = λ κs a r q ws vs x y. (whole-field r q (x ∙ sym y), refl) }
+every field::field::scan_field = record { keeps = λ M. field.field.scan_field.Met.met; one = λ κs a r q ws vs x y. (whole-scanned r q (x ∙ sym y), refl) }
 every field::field::parse_field =
     record {
       keeps = λ M. field.field.parse_field.Met.met;
@@ -228,6 +231,7 @@ every field::field::parse_field =
       nothing = λ κs a r ws x f. unwritten _ _ _ _ _ x.0 x.1 f;
     }
 every «field::field::width» = record { keeps = λ M. field.field.width.Met.met; one = λ κs a r q ws vs x y. (whole-width r q (x ∙ sym y), refl) }
+every «dna::dna::DnaTable::number» = record { keeps = λ M. dna.dna.DnaTable.number.Met.met; one = λ κs a r q ws vs x y. (x ∙ sym y, refl) }
 every dna::dna::dna_counts = record { keeps = λ M. dna.dna.dna_counts.Met.met; one = λ κs a r q ws vs x y. (wholeCountedDna r q (x ∙ sym y), refl) }
 every «dna::dna::dna» =
     record {
@@ -245,13 +249,13 @@ every «block::BlockHeader::new» = record { keeps = λ M. block.BlockHeader.new
 every block::Kind::of_code = record { keeps = λ M. block.Kind.of_code.Met.met; one = λ κs a r q ws vs x y. (whole_kind r q (x ∙ sym y), refl) }
 every «block::About::new» = record { keeps = λ M. block.About.new.Met.met; one = λ κs a r q ws vs x y. (x ∙ sym y, refl) }
 every «block::Kind::about» = record { keeps = λ M. block.Kind.about.Met.met; one = λ κs a r q ws vs x y. (x ∙ sym y, refl) }
-every header::blend::pointer_size = record { keeps = λ M. header.blend.pointer_size.Met.met; one = λ κs a r q ws vs x y. (whole-pointer_size r q (x ∙ sym y), refl) }
-every «header::blend::endianness» = record { keeps = λ M. header.blend.endianness.Met.met; one = λ κs a r q ws vs x y. (whole-endianness r q (x ∙ sym y), refl) }
-every «header::blend::version» = record { keeps = λ M. header.blend.version.Met.met; one = λ κs a r q ws vs x y. (whole-version r q (x ∙ sym y), refl) }
+every header::blend::pointer_size = record { keeps = λ M. header.blend.pointer_size.Met.met; one = λ κs a r q ws vs x y. (whole-found r q (x ∙ sym y), refl) }
+every «header::blend::endianness» = record { keeps = λ M. header.blend.endianness.Met.met; one = λ κs a r q ws vs x y. (whole-found r q (x ∙ sym y), refl) }
+every «header::blend::version» = record { keeps = λ M. header.blend.version.Met.met; one = λ κs a r q ws vs x y. (whole-found r q (x ∙ sym y), refl) }
 every «header::blend::header» = record { keeps = λ M. header.blend.header.Met.met; one = λ κs a r q ws vs x y. (whole-header r q (x ∙ sym y), refl) }
 every header::blend::refusal_of = record { keeps = λ M. header.blend.refusal_of.Met.met; one = λ κs a r q ws vs x y. (x ∙ sym y, refl) }
-every block::blend::block_header_code = record { keeps = λ M. block.blend.block_header_code.Met.met; one = λ κs a r q ws vs x y. (whole-numbered r q (x ∙ sym y), refl) }
-every block::blend::block_header = record { keeps = λ M. block.blend.block_header.Met.met; one = λ κs a r q ws vs x y. (whole-block_header r q (x ∙ sym y), refl) }
+every block::blend::block_header_code = record { keeps = λ M. block.blend.block_header_code.Met.met; one = λ κs a r q ws vs x y. (whole-found r q (x ∙ sym y), refl) }
+every block::blend::block_header = record { keeps = λ M. block.blend.block_header.Met.met; one = λ κs a r q ws vs x y. (whole-found r q (x ∙ sym y), refl) }
 every block::blend::header_in = record { keeps = λ M. block.blend.header_in.Met.met; one = λ κs a r q ws vs x y. (x ∙ sym y, refl) }
 every blend::blend::boundary_at = record { keeps = λ M. blend.blend.boundary_at.Met.met; one = λ κs a r q ws vs x y. (x ∙ sym y, refl) }
 every «blend::blend::blend» =
@@ -274,14 +278,14 @@ every «index::index::build» =
           (whole_indexed r q (x.0 ∙ sym y.0), lent-index _ _ _ _ (x.1 ∙ sym y.1) (x.2 ∙ sym y.2));
       nothing = λ κs a r ws x f. (unwritten _ _ _ _ _ x.0 x.1 f, unwritten _ _ _ _ _ x.0 x.2 f);
     }
-every «index::index::find» = record { keeps = λ M. index.index.find.Met.met; one = λ κs a r q ws vs x y. (whole-found r q (x ∙ sym y), refl) }
+every «index::index::find» = record { keeps = λ M. index.index.find.Met.met; one = λ κs a r q ws vs x y. (whole-found-index r q (x ∙ sym y), refl) }
 every writable::writable::row_at = record { keeps = λ M. writable.writable.row_at.Met.met; one = λ κs a r q ws vs x y. (x ∙ sym y, refl) }
 every writable::writable::bytes_needed = record { keeps = λ M. writable.writable.bytes_needed.Met.met; one = λ κs a r q ws vs x y. (x ∙ sym y, refl) }
 every «writer::writer::write» =
     record {
       keeps = λ M. writer.writer.write.Met.met;
       one = λ κs a r q ws vs x y.
-          (x.0 ∙ sym y.0, lent_output _ _ (x.1 ∙ ap (λ (w : WriteAnswer). output_after w a.0 a.1.0.now a.1.1.0 a.1.1.1.0.now a.1.1.1.1.0.now) (x.0 ∙ sym y.0) ∙ sym y.1));
+          (x.0 ∙ sym y.0, lent_output _ _ (x.1 ∙ ap (λ (w : Result ℕ WriteError). output_after w a.0 a.1.0.now a.1.1.0 a.1.1.1.0.now a.1.1.1.1.0.now) (x.0 ∙ sym y.0) ∙ sym y.1));
       nothing = λ κs a r ws x f. unwritten _ (paper_write r) _ _ _ refl x.1 f;
     }
 every held::step_at = record { keeps = λ M. held.step_at.Met.met; one = λ κs a r q ws vs x y. (whole-step r q (x.0 ∙ sym y.0) (x.1 ∙ sym y.1), refl) }

@@ -3,10 +3,10 @@
 use Rattle.std.specs.Prelude.{ℕ, List, ◌≡◌}
 use Rattle.octets.specs.Paper.{Paper}
 use Rattle.octets.specs.Paper.Paper.{refuses}
-use Rattle.octets.specs.Calls.{«Fault::refusal», «Fault::place», PointerSize::bytes_num, cursor::Width::bytes_num, cursor::stands_at, «cursor::before», «cursor::Cursor::new», «cursor::Cursor::number», «cursor::Cursor::skip», «cursor::Cursor::bytes», «cursor::Cursor::part», «cursor::Cursor::mark», «cursor::Cursor::begins», «cursor::Cursor::until», «cursor::Cursor::string»}
+use Rattle.octets.specs.Calls.{«Refusal::number», «Fault::refusal», «Fault::place», PointerSize::bytes_num, cursor::Width::bytes_num, cursor::stands_at, «cursor::before», «cursor::Cursor::new», «cursor::Cursor::number», «cursor::Cursor::skip», «cursor::Cursor::bytes», «cursor::Cursor::part», «cursor::Cursor::mark», «cursor::Cursor::begins», «cursor::Cursor::until», «cursor::Cursor::string»}
 use Rattle.primitive.specs.Calls.{primitive::parse_u8, primitive::parse_u16, primitive::parse_u32, primitive::parse_u64, primitive::parse_char, primitive::parse_i8, primitive::parse_i16, primitive::parse_i32, primitive::parse_i64, primitive::parse_f32, primitive::parse_f64, primitive::blender_name_char, primitive::blender_name_i8, primitive::blender_name_u8, primitive::blender_name_u16, primitive::blender_name_i16, primitive::blender_name_i32, primitive::blender_name_u32, primitive::blender_name_f32, primitive::blender_name_f64, primitive::blender_name_u64, primitive::blender_name_i64}
 use Rattle.field.specs.Calls.{field::fn_pointer, field::scan_field, field::parse_field, «field::width»}
-use Rattle.dna.specs.Calls.{dna::dna_counts, «dna::dna»}
+use Rattle.dna.specs.Calls.{«dna::DnaTable::number», dna::dna_counts, «dna::dna»}
 use Rattle.header.specs.Calls.{FileFormat::header_len, FileFormat::block_header_len, «Header::new», blend::pointer_size, «blend::endianness», «blend::version», «blend::header», blend::refusal_of}
 use Rattle.block.specs.Calls.{«BlockHeader::new», Kind::of_code, «About::new», «Kind::about», blend::block_header_code, blend::block_header, blend::header_in}
 use Rattle.blend.specs.Calls.{blend::boundary_at, «blend::blend»}
@@ -59,6 +59,7 @@ use Rattle.promises.specs.Keeps.Public.{call, shows, lends}
 
 pub data PublicCall : Type 0 where
   octets::PointerSize::bytes_num : PublicCall
+  «octets::Refusal::number» : PublicCall
   «octets::Fault::refusal» : PublicCall
   «octets::Fault::place» : PublicCall
   octets::cursor::Width::bytes_num : PublicCall
@@ -99,6 +100,7 @@ pub data PublicCall : Type 0 where
   field::field::scan_field : PublicCall
   field::field::parse_field : PublicCall
   «field::field::width» : PublicCall
+  «dna::dna::DnaTable::number» : PublicCall
   dna::dna::dna_counts : PublicCall
   «dna::dna::dna» : PublicCall
   header::FileFormat::header_len : PublicCall
@@ -165,6 +167,7 @@ Nonzero n = n ≡ 0 → ⊥
 
 abbrev pub public_call : PublicCall → Public
 public_call octets::PointerSize::bytes_num = call octets_contracts.PointerSize.bytes_num.ended (fn₀ "octets::PointerSize::bytes_num") (code_of _ (λ M. octets.PointerSize.bytes_num.Met.met {M = M})) (λ κs (self, _) r e. PointerSize::bytes_num self r)
+public_call «octets::Refusal::number» = call octets_contracts.Refusal.number.ended (fn₀ "octets::Refusal::number") (code_of _ (λ M. octets.Refusal.number.Met.met {M = M})) (λ κs (self, _) r e. «Refusal::number» self r)
 public_call «octets::Fault::refusal» = call octets_contracts.Fault.refusal.ended (fn₀ "octets::Fault::refusal") (code_of _ (λ M. octets.Fault.refusal.Met.met {M = M})) (λ κs (self, _) r e. «Fault::refusal» self r)
 public_call «octets::Fault::place» = call octets_contracts.Fault.place.ended (fn₀ "octets::Fault::place") (code_of _ (λ M. octets.Fault.place.Met.met {M = M})) (λ κs (self, _) r e. «Fault::place» self r)
 public_call octets::cursor::Width::bytes_num = call octets_contracts.cursor.Width.bytes_num.ended (fn₀ "octets::cursor::Width::bytes_num") (code_of _ (λ M. octets.cursor.Width.bytes_num.Met.met {M = M})) (λ κs (self, _) r e. cursor::Width::bytes_num self r)
@@ -190,23 +193,24 @@ public_call primitive::primitive::parse_i32 = call primitive_contracts.primitive
 public_call primitive::primitive::parse_i64 = call primitive_contracts.primitive.parse_i64.ended (fn₀ "primitive::primitive::parse_i64") (code_of _ (λ M. primitive.primitive.parse_i64.Met.met {M = M})) (λ κs (slice, (endianness, _)) r e. primitive::parse_i64 slice.now endianness r)
 public_call primitive::primitive::parse_f32 = call primitive_contracts.primitive.parse_f32.ended (fn₀ "primitive::primitive::parse_f32") (code_of _ (λ M. primitive.primitive.parse_f32.Met.met {M = M})) (λ κs (slice, (endianness, _)) r e. primitive::parse_f32 slice.now endianness r)
 public_call primitive::primitive::parse_f64 = call primitive_contracts.primitive.parse_f64.ended (fn₀ "primitive::primitive::parse_f64") (code_of _ (λ M. primitive.primitive.parse_f64.Met.met {M = M})) (λ κs (slice, (endianness, _)) r e. primitive::parse_f64 slice.now endianness r)
-public_call primitive::primitive::blender_name_char = call primitive_contracts.primitive.blender_name_char.ended (fn₀ "primitive::primitive::blender_name_char") (code_of _ (λ M. primitive.primitive.blender_name_char.Met.met {M = M})) (λ κs a r e. primitive::blender_name_char r)
-public_call primitive::primitive::blender_name_i8 = call primitive_contracts.primitive.blender_name_i8.ended (fn₀ "primitive::primitive::blender_name_i8") (code_of _ (λ M. primitive.primitive.blender_name_i8.Met.met {M = M})) (λ κs a r e. primitive::blender_name_i8 r)
-public_call primitive::primitive::blender_name_u8 = call primitive_contracts.primitive.blender_name_u8.ended (fn₀ "primitive::primitive::blender_name_u8") (code_of _ (λ M. primitive.primitive.blender_name_u8.Met.met {M = M})) (λ κs a r e. primitive::blender_name_u8 r)
-public_call primitive::primitive::blender_name_u16 = call primitive_contracts.primitive.blender_name_u16.ended (fn₀ "primitive::primitive::blender_name_u16") (code_of _ (λ M. primitive.primitive.blender_name_u16.Met.met {M = M})) (λ κs a r e. primitive::blender_name_u16 r)
-public_call primitive::primitive::blender_name_i16 = call primitive_contracts.primitive.blender_name_i16.ended (fn₀ "primitive::primitive::blender_name_i16") (code_of _ (λ M. primitive.primitive.blender_name_i16.Met.met {M = M})) (λ κs a r e. primitive::blender_name_i16 r)
-public_call primitive::primitive::blender_name_i32 = call primitive_contracts.primitive.blender_name_i32.ended (fn₀ "primitive::primitive::blender_name_i32") (code_of _ (λ M. primitive.primitive.blender_name_i32.Met.met {M = M})) (λ κs a r e. primitive::blender_name_i32 r)
-public_call primitive::primitive::blender_name_u32 = call primitive_contracts.primitive.blender_name_u32.ended (fn₀ "primitive::primitive::blender_name_u32") (code_of _ (λ M. primitive.primitive.blender_name_u32.Met.met {M = M})) (λ κs a r e. primitive::blender_name_u32 r)
-public_call primitive::primitive::blender_name_f32 = call primitive_contracts.primitive.blender_name_f32.ended (fn₀ "primitive::primitive::blender_name_f32") (code_of _ (λ M. primitive.primitive.blender_name_f32.Met.met {M = M})) (λ κs a r e. primitive::blender_name_f32 r)
-public_call primitive::primitive::blender_name_f64 = call primitive_contracts.primitive.blender_name_f64.ended (fn₀ "primitive::primitive::blender_name_f64") (code_of _ (λ M. primitive.primitive.blender_name_f64.Met.met {M = M})) (λ κs a r e. primitive::blender_name_f64 r)
-public_call primitive::primitive::blender_name_u64 = call primitive_contracts.primitive.blender_name_u64.ended (fn₀ "primitive::primitive::blender_name_u64") (code_of _ (λ M. primitive.primitive.blender_name_u64.Met.met {M = M})) (λ κs a r e. primitive::blender_name_u64 r)
-public_call primitive::primitive::blender_name_i64 = call primitive_contracts.primitive.blender_name_i64.ended (fn₀ "primitive::primitive::blender_name_i64") (code_of _ (λ M. primitive.primitive.blender_name_i64.Met.met {M = M})) (λ κs a r e. primitive::blender_name_i64 r)
+public_call primitive::primitive::blender_name_char = shows primitive_contracts.primitive.blender_name_char.ended (fn₀ "primitive::primitive::blender_name_char") (code_of _ (λ M. primitive.primitive.blender_name_char.Met.met {M = M})) (λ κs r. r.now) (λ κs a r e. primitive::blender_name_char r.now)
+public_call primitive::primitive::blender_name_i8 = shows primitive_contracts.primitive.blender_name_i8.ended (fn₀ "primitive::primitive::blender_name_i8") (code_of _ (λ M. primitive.primitive.blender_name_i8.Met.met {M = M})) (λ κs r. r.now) (λ κs a r e. primitive::blender_name_i8 r.now)
+public_call primitive::primitive::blender_name_u8 = shows primitive_contracts.primitive.blender_name_u8.ended (fn₀ "primitive::primitive::blender_name_u8") (code_of _ (λ M. primitive.primitive.blender_name_u8.Met.met {M = M})) (λ κs r. r.now) (λ κs a r e. primitive::blender_name_u8 r.now)
+public_call primitive::primitive::blender_name_u16 = shows primitive_contracts.primitive.blender_name_u16.ended (fn₀ "primitive::primitive::blender_name_u16") (code_of _ (λ M. primitive.primitive.blender_name_u16.Met.met {M = M})) (λ κs r. r.now) (λ κs a r e. primitive::blender_name_u16 r.now)
+public_call primitive::primitive::blender_name_i16 = shows primitive_contracts.primitive.blender_name_i16.ended (fn₀ "primitive::primitive::blender_name_i16") (code_of _ (λ M. primitive.primitive.blender_name_i16.Met.met {M = M})) (λ κs r. r.now) (λ κs a r e. primitive::blender_name_i16 r.now)
+public_call primitive::primitive::blender_name_i32 = shows primitive_contracts.primitive.blender_name_i32.ended (fn₀ "primitive::primitive::blender_name_i32") (code_of _ (λ M. primitive.primitive.blender_name_i32.Met.met {M = M})) (λ κs r. r.now) (λ κs a r e. primitive::blender_name_i32 r.now)
+public_call primitive::primitive::blender_name_u32 = shows primitive_contracts.primitive.blender_name_u32.ended (fn₀ "primitive::primitive::blender_name_u32") (code_of _ (λ M. primitive.primitive.blender_name_u32.Met.met {M = M})) (λ κs r. r.now) (λ κs a r e. primitive::blender_name_u32 r.now)
+public_call primitive::primitive::blender_name_f32 = shows primitive_contracts.primitive.blender_name_f32.ended (fn₀ "primitive::primitive::blender_name_f32") (code_of _ (λ M. primitive.primitive.blender_name_f32.Met.met {M = M})) (λ κs r. r.now) (λ κs a r e. primitive::blender_name_f32 r.now)
+public_call primitive::primitive::blender_name_f64 = shows primitive_contracts.primitive.blender_name_f64.ended (fn₀ "primitive::primitive::blender_name_f64") (code_of _ (λ M. primitive.primitive.blender_name_f64.Met.met {M = M})) (λ κs r. r.now) (λ κs a r e. primitive::blender_name_f64 r.now)
+public_call primitive::primitive::blender_name_u64 = shows primitive_contracts.primitive.blender_name_u64.ended (fn₀ "primitive::primitive::blender_name_u64") (code_of _ (λ M. primitive.primitive.blender_name_u64.Met.met {M = M})) (λ κs r. r.now) (λ κs a r e. primitive::blender_name_u64 r.now)
+public_call primitive::primitive::blender_name_i64 = shows primitive_contracts.primitive.blender_name_i64.ended (fn₀ "primitive::primitive::blender_name_i64") (code_of _ (λ M. primitive.primitive.blender_name_i64.Met.met {M = M})) (λ κs r. r.now) (λ κs a r e. primitive::blender_name_i64 r.now)
 public_call field::field::fn_pointer = call field_contracts.field.fn_pointer.ended (fn₀ "field::field::fn_pointer") (code_of _ (λ M. field.field.fn_pointer.Met.met {M = M})) (λ κs (name, _) r e. field::fn_pointer name.now r)
 public_call field::field::scan_field = call field_contracts.field.scan_field.ended (fn₀ "field::field::scan_field") (code_of _ (λ M. field.field.scan_field.Met.met {M = M})) (λ κs (name, _) r e. field::scan_field name.now r)
 public_call field::field::parse_field =
     lends field_contracts.field.parse_field.ended (fn₀ "field::field::parse_field") (code_of _ (λ M. field.field.parse_field.Met.met {M = M})) (λ κs (name, (dimensions, _)) r (_, (dimensions', _)). field::parse_field name.now dimensions.now r dimensions'.now)
     (λ κs (_, (dimensions, _)) r (_, (dimensions', _)). Refused (paper_field r) → dimensions' ≡ dimensions.now)
 public_call «field::field::width» = call field_contracts.field.width.ended (fn₀ "field::field::width") (code_of _ (λ M. field.field.width.Met.met {M = M})) (λ κs (d, (size, (pointer_size, _))) r e. «field::width» d size pointer_size r)
+public_call «dna::dna::DnaTable::number» = call dna_contracts.dna.DnaTable.number.ended (fn₀ "dna::dna::DnaTable::number") (code_of _ (λ M. dna.dna.DnaTable.number.Met.met {M = M})) (λ κs (self, _) r e. «dna::DnaTable::number» self r)
 public_call dna::dna::dna_counts = call dna_contracts.dna.dna_counts.ended (fn₀ "dna::dna::dna_counts") (code_of _ (λ M. dna.dna.dna_counts.Met.met {M = M})) (λ κs (payload, (endianness, _)) r e. dna::dna_counts payload.now endianness r)
 public_call «dna::dna::dna» =
     lends dna_contracts.dna.dna.ended (fn₀ "dna::dna::dna") (code_of _ (λ M. dna.dna.dna.Met.met {M = M})) (λ κs (payload, (endianness, (names, (types, (structs, (fields, _)))))) r (_, (_, (names', (types', (structs', (fields', _)))))). «dna::dna» payload.now endianness names.now types.now structs.now fields.now r names'.now types'.now structs'.now fields'.now)

@@ -1,4 +1,5 @@
 -- A file that was read, and whose header is written as it was, is written as it was: from its own rows and itself, up to the end of the end mark.
+use Rattle.std.specs.Prelude.{Some, None}
 use Prim.Native.Nat.{ℕ, ◌-◌, ◌^◌, ◌≤◌}
 use mathlib.Core.Bool.{true}
 use mathlib.Core.List.{List, [], ◌∷◌, ◌++◌, append_assoc}
@@ -20,7 +21,6 @@ use Rattle.block.specs.declared.Row.{Row}
 use Rattle.block.specs.Rows.{payload_of}
 use Rattle.block.specs.Spelling.{told, block_header_out}
 use Rattle.block.proofs.BlockHeadersOut.{block_header-again}
-use Rattle.blend.specs.declared.blend.Last.{Last}
 use Rattle.blend.specs.Chain.{File, file_by}
 use Rattle.writable.proofs.Accepted.{AllFit, AllTaken, Accepts}
 use Rattle.writer.specs.Writer.{blocks_out, file_out}
@@ -60,8 +60,8 @@ module _ (s : List ℕ) (bytes : Bytes s) (f : File) (first : ℕ) (n : DnaCount
   cover : Covered header_bytes s h rows end
   cover = covered header_bytes header_tree s f first n end e l
 
-  taken : AllTaken h.endianness s rows Last.Other (Last.Dna n)
-  taken = linked-taken h s rows first Last.Other n end (file-linked header_bytes s f first (filed header_bytes s f first e) n end l)
+  taken : AllTaken h.endianness s rows None (Some n)
+  taken = linked-taken h s rows first None n end (file-linked header_bytes s f first (filed header_bytes s f first e) n end l)
 
   pub same_bytes : file_out h s rows ≡ take end s
   unfolding file_out
@@ -81,6 +81,6 @@ module _ (s : List ℕ) (bytes : Bytes s) (f : File) (first : ℕ) (n : DnaCount
         taken = taken;
         header = fits;
         fit = blocks-fit h s bytes rows cover.blocks;
-        long = sym as_long ∙ file_out-length h s rows (taken-inside h.endianness s rows Last.Other (Last.Dna n) taken);
+        long = sym as_long ∙ file_out-length h s rows (taken-inside h.endianness s rows None (Some n) taken);
         small = small;
       }

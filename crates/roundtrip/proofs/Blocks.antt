@@ -1,4 +1,5 @@
 -- Blocks that were written are read back one after another, in every form: over the layout of block headers.
+use Rattle.std.specs.Prelude.{Ok, Option, Some}
 use Prim.Native.Nat.{ℕ, ◌+◌, ◌≤◌}
 use mathlib.Core.Bool.{Bool, true, false}
 use mathlib.Core.List.{List, [], ◌∷◌, ◌++◌, append_assoc}
@@ -24,7 +25,6 @@ use Rattle.block.specs.Kinds.{kind_of}
 use Rattle.block.specs.Rows.{payload_of}
 use Rattle.block.specs.Spelling.{told, spell, block_header_out, row_fits}
 use Rattle.block.proofs.BlockHeadersOut.{block_header_out-length, header_told, block_header-back}
-use Rattle.blend.specs.declared.blend.Last.{Last}
 use Rattle.blend.specs.declared.blend.Boundary.{Boundary}
 use Rattle.blend.specs.Blocks.{boundary_of}
 use Rattle.blend.specs.Chain.{ended}
@@ -37,7 +37,7 @@ use Rattle.roundtrip.specs.Placed.{placed_at, placed}
 use Rattle.roundtrip.proofs.Codes.{code-taken, code-small, code-no-mark, last-finished}
 
 -- A block that stands in z as it was written, its payload taken from s.
-module _ (h : Header) (s : List ℕ) (r : Row) (l : Last) (w : RowTaken h.endianness s r l) (f : row_fits h r ≡ true)
+module _ (h : Header) (s : List ℕ) (r : Row) (l : Option DnaCounts) (w : RowTaken h.endianness s r l) (f : row_fits h r ≡ true)
     (z : List ℕ) (at : ℕ) (ys : List ℕ) (here : Here z at (block_header_out h r ++ payload_of s r ++ ys)) where
   abbrev long : ℕ
   long = block_header_length h.format h.pointer_size
@@ -80,7 +80,7 @@ module _ (h : Header) (s : List ℕ) (r : Row) (l : Last) (w : RowTaken h.endian
       let small = code-small h.endianness r.code r.count (payload_of s r) l w.end w.found in
       sym (block_header-back h r z (payload_of s r ++ ys) at w.some small f whole)
 
-  pub block_back : boundary_of h z at ≡ Boundary.Block (placed_at h at r) l (at + (long + r.len))
+  pub block_back : boundary_of h z at ≡ Ok (Boundary.Block (placed_at h at r) l (at + (long + r.len)))
   block_back =
       let e : at + long + r.len ≡ at + (long + r.len) = omega arith in
       let room : at + long + r.len ≤ length z = omega (arith, payload-long, here-room z (at + long) (payload_of s r) ys after-header) in
@@ -88,19 +88,19 @@ module _ (h : Header) (s : List ℕ) (r : Row) (l : Last) (w : RowTaken h.endian
       let row = row_read_lem h z at (header_told r) (at + long) header-found (at + long + r.len) skip (kind_of r.code) refl (sym (code-taken h.endianness r.code r.count (payload_of s r) l w.end w.found)) (placed_at h at r) refl in
       sym (boundary_block h z at unmarked (placed_at h at r) (at + long + r.len) row)
       ∙ last-finished h.endianness r.code r.count (payload_of s r) l w.end w.found h z (placed_at h at r) (at + long + r.len) refl refl payload-shown
-      ∙ ap (Boundary.Block (placed_at h at r) l) e
+      ∙ ap (λ (n : ℕ). Ok (Boundary.Block (placed_at h at r) l n)) e
 
 -- All blocks, and then the end mark.
 module _ (h : Header) (s z ys : List ℕ) (d : DnaCounts) where
   abbrev header-long : ℕ
   header-long = block_header_length h.format h.pointer_size
 
-  pub blocks-back : (rs : List Row) (at : ℕ) (last : Last) → AllTaken h.endianness s rs last (Last.Dna d) → AllFit h rs → Here z at (blocks_out h s rs ++ (ascii "ENDB" ++ ys))
+  pub blocks-back : (rs : List Row) (at : ℕ) (last : Option DnaCounts) → AllTaken h.endianness s rs last (Some d) → AllFit h rs → Here z at (blocks_out h s rs ++ (ascii "ENDB" ++ ys))
       → Linked h z at last (placed h at rs) d (at + blocks_length header-long rs + 4)
   unfolding blocks_out blocks_length placed
   blocks-back [] at last t f w =
       let e : at + 4 ≡ at + 0 + 4 = omega arith in
-      (sym (end_mark_lem h z at (here-stands z at (ascii "ENDB") ys w)), ap (λ (l : Last). ended l (at + 4)) t ∙ ap (read d) e)
+      (sym (end_mark_lem h z at (here-stands z at (ascii "ENDB") ys w)), ap (λ (l : Option DnaCounts). ended l (at + 4)) t ∙ ap (read d) e)
   blocks-back (r ∷ rs) at last t f w =
       let tail = blocks_out h s rs ++ (ascii "ENDB" ++ ys) in
       let v = here-same z at _ _ (append_assoc (block_header_out h r ++ payload_of s r) (blocks_out h s rs) (ascii "ENDB" ++ ys)) w in
@@ -114,7 +114,7 @@ module _ (h : Header) (s z ys : List ℕ) (d : DnaCounts) where
   SameParts (r ∷ rs) [] = Unit {0}
   SameParts (r ∷ rs) (q ∷ qs) = (payload_of z q ≡ payload_of s r) × SameParts rs qs
 
-  pub parts-back : (rs : List Row) (at : ℕ) (last : Last) → AllTaken h.endianness s rs last (Last.Dna d) → AllFit h rs → Here z at (blocks_out h s rs ++ (ascii "ENDB" ++ ys))
+  pub parts-back : (rs : List Row) (at : ℕ) (last : Option DnaCounts) → AllTaken h.endianness s rs last (Some d) → AllFit h rs → Here z at (blocks_out h s rs ++ (ascii "ENDB" ++ ys))
       → SameParts rs (placed h at rs)
   unfolding blocks_out placed
   parts-back [] at last t f w = tt

@@ -1,4 +1,5 @@
 -- A file that was written is read: header, blocks and end mark, whatever follows.
+use Rattle.std.specs.Prelude.{None}
 use Prim.Native.Nat.{ℕ, suc, ◌+◌}
 use mathlib.Core.List.{List, ◌++◌, append_assoc}
 use mathlib.Core.Path.{◌≡◌, sym, ◌∙◌, ap, subst}
@@ -13,7 +14,6 @@ use Rattle.header.specs.Header.{header_length, header_bytes, valued}
 use Rattle.header.specs.HeaderOut.{header_out}
 use Rattle.header.proofs.HeadersOut.{header_out-length, header-back}
 use Rattle.block.specs.declared.Row.{Row}
-use Rattle.blend.specs.declared.blend.Last.{Last}
 use Rattle.blend.specs.Chain.{Chain, File, on_header, file_by, chain_from}
 use Rattle.blend.proofs.Links.{Linked, chained}
 use Rattle.writable.proofs.Accepted.{Accepts}
@@ -44,11 +44,11 @@ module _ (h : Header) (s : List ℕ) (rs : List Row) (n : ℕ) (a : Accepts h s 
   pub header-found : valued (run header_bytes file 0) ≡ read h first
   header-found = ap (λ (z : List ℕ). valued (run header_bytes z 0)) in_parts ∙ header-back h.format h.pointer_size h.endianness h.version tail a.header
 
-  pub rows-linked : Linked h file first Last.Other (placed h first rs) a.counts n
-  rows-linked = subst (Linked h file first Last.Other (placed h first rs) a.counts) (sym a.long) (blocks-back h s file ys a.counts rs first Last.Other a.taken a.fit after-header)
+  pub rows-linked : Linked h file first None (placed h first rs) a.counts n
+  rows-linked = subst (Linked h file first None (placed h first rs) a.counts) (sym a.long) (blocks-back h s file ys a.counts rs first None a.taken a.fit after-header)
 
   pub parts-shown : SameParts h s file ys a.counts rs (placed h first rs)
-  parts-shown = parts-back h s file ys a.counts rs first Last.Other a.taken a.fit after-header
+  parts-shown = parts-back h s file ys a.counts rs first None a.taken a.fit after-header
 
   abbrev pub as_file : File
   as_file = record { header = h; chain = record { rows = placed h first rs; last = read a.counts n } }
@@ -58,4 +58,4 @@ module _ (h : Header) (s : List ℕ) (rs : List Row) (n : ℕ) (a : Accepts h s 
   file-found =
       ap (on_header file) header-found
       ∙ ap (λ (c : Chain). read (record { header = h; chain = c }) first)
-      (chained h file (placed h first rs) (suc (length file)) first Last.Other a.counts n rows-linked (omega arith) after-header.inside)
+      (chained h file (placed h first rs) (suc (length file)) first None a.counts n rows-linked (omega arith) after-header.inside)

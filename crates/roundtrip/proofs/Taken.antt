@@ -1,4 +1,5 @@
 -- A block that was read is a row that the writer takes, with the numbers that its bytes spell.
+use Rattle.std.specs.Prelude.{Result, Ok, Option, Some, None}
 use Prim.Native.Nat.{ℕ, ◌+◌, ◌^◌, ◌≤◌, ◌<◌}
 use mathlib.Core.Bool.{Bool, true, false, ◌&&◌}
 use mathlib.Core.List.{List, [], ◌∷◌}
@@ -7,7 +8,7 @@ use native.Mathlib.Omega.{arith}
 use borrow.Author.Tests.{lt-ltb, eqb-false}
 use lib.Dec.{eqb}
 use lib.ListN.{length, drop, length-drop}
-use Rattle.octets.specs.declared.Fault.TheVariants.{Refusal}
+use Rattle.octets.specs.declared.Refusal.TheVariants.{InvalidMemoryAddress}
 use Rattle.octets.specs.Number.{Bytes}
 use Rattle.octets.specs.Reader.{Reader, Outcome, run, then}
 use Rattle.octets.specs.Reader.Reader.{done}
@@ -26,8 +27,8 @@ use Rattle.block.specs.Kinds.{kind_of, about}
 use Rattle.block.specs.Rows.{payload_of}
 use Rattle.block.specs.Spelling.{Spell, fits}
 use Rattle.block.proofs.Layouts.{header_there}
-use Rattle.blend.specs.declared.blend.Last.{Last}
 use Rattle.blend.specs.declared.blend.Boundary.{Boundary}
+use Rattle.octets.specs.declared.Fault.{Fault}
 use Rattle.blend.specs.Blocks.{taken, is_dna, catalogued, block, rowed, row_at, finished, boundary_of}
 use Rattle.blend.specs.Chain.{ended}
 use Rattle.blend.proofs.Chains.{block_row}
@@ -43,7 +44,7 @@ module _ (h : Header) (s : List ℕ) (at : ℕ) (b : BlockHeader) (from : ℕ) (
   address-some l z = go (eqb (header_at h s at).address 0) refl (header_there h s at l ∙ sym g)
     where
       go : (t : Bool) → eqb (header_at h s at).address 0 ≡ t
-          → (elim t as (λ (c : Bool). Outcome BlockHeader) [ true ↦ fault (Refusal 3) | false ↦ read (header_at h s at) (at + block_header_length h.format h.pointer_size) ]) ≡ read b from → ⊥
+          → (elim t as (λ (c : Bool). Outcome BlockHeader) [ true ↦ fault (Fault.Refusal InvalidMemoryAddress) | false ↦ read (header_at h s at) (at + block_header_length h.format h.pointer_size) ]) ≡ read b from → ⊥
       go true q w =
           let y : ◌≡◌ {A = ℕ} 0 1 = cc in
           absurd (omega arith)
@@ -52,7 +53,7 @@ module _ (h : Header) (s : List ℕ) (at : ℕ) (b : BlockHeader) (from : ℕ) (
           eqb-false _ _ q (ap (λ (c : BlockHeader). c.address) y ∙ z)
 
 -- A block at a boundary.
-module _ (h : Header) (s : List ℕ) (at : ℕ) (r : Row) (l : Last) (next : ℕ) (e : boundary_of h s at ≡ Boundary.Block r l next) where
+module _ (h : Header) (s : List ℕ) (at : ℕ) (r : Row) (l : Option DnaCounts) (next : ℕ) (e : boundary_of h s at ≡ Ok (Boundary.Block r l next)) where
   w : Headed h s at r next
   w = row-headed h s at r next (block_row h s at r l next e)
 
@@ -69,30 +70,30 @@ module _ (h : Header) (s : List ℕ) (at : ℕ) (r : Row) (l : Last) (next : ℕ
           absurd (omega arith)
 
   -- and a DNA1's catalogue was found
-  is-finished : finished h s r next ≡ Boundary.Block r l next
+  is-finished : finished h s r next ≡ Ok (Boundary.Block r l next)
   is-finished = boundary_block h s at (no-mark h s at r l next e) r next (sym (block_row h s at r l next e)) ∙ e
 
   last_found : (end : ℕ) × (run (after h.endianness (is_dna (kind_of r.code))) (payload_of s r) 0 ≡ read l end)
   unfolding finished run
   last_found = go (is_dna (kind_of r.code)) is-finished
     where
-      found : (o : Outcome Dna) → run (catalogue h.endianness) (payload_of s r) 0 ≡ o → catalogued r next o ≡ Boundary.Block r l next
-          → (end : ℕ) × (onwards o (λ d m. read (Last.Dna (counts d)) m) ≡ read l end)
+      found : (o : Outcome Dna) → run (catalogue h.endianness) (payload_of s r) 0 ≡ o → catalogued r next o ≡ Ok (Boundary.Block r l next)
+          → (end : ℕ) × (onwards o (λ d m. read (Some (counts d)) m) ≡ read l end)
       found (read d m) q v =
-          let y : Last.Dna (counts d) ≡ l = cc in
-          (m, ap (λ (k : Last). read k m) y)
+          let y : (Some (counts d)) ≡ l = cc in
+          (m, ap (λ (k : Option DnaCounts). read k m) y)
       found (fault x) q v =
           let y : ◌≡◌ {A = ℕ} 0 1 = cc in
           absurd (omega arith)
 
-      go : (b : Bool) → (elim b as (λ t. Boundary) [ true ↦ catalogued r next (run (catalogue h.endianness) (payload_of s r) 0) | false ↦ Boundary.Block r Last.Other next ]) ≡ Boundary.Block r l next
+      go : (b : Bool) → (elim b as (λ t. (Result Boundary Fault)) [ true ↦ catalogued r next (run (catalogue h.endianness) (payload_of s r) 0) | false ↦ Ok (Boundary.Block r None next) ]) ≡ Ok (Boundary.Block r l next)
           → (end : ℕ) × (run (after h.endianness b) (payload_of s r) 0 ≡ read l end)
       go true v =
           let f = found (run (catalogue h.endianness) (payload_of s r) 0) refl v in
-          (f.0, run-then (catalogue h.endianness) (λ d. done (Last.Dna (counts d))) (payload_of s r) 0 ∙ f.1)
+          (f.0, run-then (catalogue h.endianness) (λ d. done (Some (counts d))) (payload_of s r) 0 ∙ f.1)
       go false v =
-          let y : Last.Other ≡ l = cc in
-          (0, ap (λ (k : Last). read k 0) y)
+          let y : None ≡ l = cc in
+          (0, ap (λ (k : Option DnaCounts). read k 0) y)
 
   as_found : run (as_last h.endianness r.code r.count) (payload_of s r) 0 ≡ read l last_found.0
   unfolding as_last run then
@@ -112,16 +113,16 @@ module _ (h : Header) (s : List ℕ) (at : ℕ) (r : Row) (l : Last) (next : ℕ
       }
 
 -- All blocks up to the end mark.
-pub linked-taken : (h : Header) (s : List ℕ) (rows : List Row) (at : ℕ) (last : Last) (n : DnaCounts) (end : ℕ) → Linked h s at last rows n end → AllTaken h.endianness s rows last (Last.Dna n)
+pub linked-taken : (h : Header) (s : List ℕ) (rows : List Row) (at : ℕ) (last : Option DnaCounts) (n : DnaCounts) (end : ℕ) → Linked h s at last rows n end → AllTaken h.endianness s rows last (Some n)
 linked-taken h s [] at last n end w = go last w.1
   where
-    go : (l : Last) → ended l (at + 4) ≡ read n end → l ≡ Last.Dna n
-    go Last.Other q =
+    go : (l : Option DnaCounts) → ended l (at + 4) ≡ read n end → l ≡ Some n
+    go None q =
         let y : ◌≡◌ {A = ℕ} 0 1 = cc in
         absurd (omega arith)
-    go (Last.Dna m) q =
+    go (Some m) q =
         let y : m ≡ n = cc in
-        ap Last.Dna y
+        ap Some y
 linked-taken h s (r ∷ rs) at last n end w = (w.0, block-taken h s at r w.0 w.1 w.2, linked-taken h s rs w.1 w.0 n end w.3)
 
 -- Numbers that bytes spell have room in as many bytes.

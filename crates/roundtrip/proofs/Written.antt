@@ -1,4 +1,5 @@
 -- What is promised of the writer and the reader together.
+use Rattle.std.specs.Prelude.{Result, Ok, Err, Option, Some, None}
 use Prim.Native.Nat.{ℕ, zero, suc, ◌+◌, ◌-◌, ◌/◌, ◌^◌, ◌≤◌, ◌<◌}
 use mathlib.Core.Bool.{Bool, true, false}
 use mathlib.Core.List.{List, [], ◌∷◌, ◌++◌}
@@ -31,17 +32,16 @@ use Rattle.header.proofs.HeadersOut.{header_out-length}
 use Rattle.block.specs.declared.Row.{Row}
 use Rattle.block.specs.Rows.{per_row, row_spelt, rows_spelt, row_table, none, payload_of}
 use Rattle.block.proofs.Tables.{table-length, rows-many, row_at, all-rows}
-use Rattle.blend.specs.declared.blend.Last.{Last}
 use Rattle.blend.specs.declared.blend.RawBlend.{RawBlend}
-use Rattle.blend.specs.declared.blend.BlendAnswer.{BlendAnswer}
+use Rattle.blend.specs.declared.blend.BlendError.{BlendError}
 use Rattle.blend.specs.Calls.{«blend::blend»}
 use Rattle.blend.specs.Chain.{File, file_by, answer_for, read_as, rows_of, table_after, paper_blend}
 use Rattle.blend.proofs.Lossless.{whole-blend}
-use Rattle.writable.specs.declared.writable.Needed.{Needed}
+use Rattle.writable.specs.declared.writable.WritableError.{WritableError}
 use Rattle.writable.specs.Writable.{needed_of}
 use Rattle.writable.proofs.Accepted.{RowTaken, AllTaken, Accepts, accepts, accepted}
 use Rattle.writable.proofs.Answers.{needed_rows, needed_there}
-use Rattle.writer.specs.declared.writer.WriteAnswer.{WriteAnswer}
+use Rattle.writer.specs.declared.writer.WriteError.{WriteError}
 use Rattle.writer.specs.Calls.{«writer::write»}
 use Rattle.writer.specs.Writer.{file_out, answer_in, output_after}
 use Rattle.writer.proofs.Files.{taken-inside, file_out-length}
@@ -60,33 +60,30 @@ use Rattle.roundtrip.proofs.Codes.{dna-found}
 use Rattle.roundtrip.proofs.Files.{as_file, in_parts, file-found, parts-shown}
 
 -- where bytes were written, they were needed, and there was room for them
-wrote : (x : Needed) (room n : ℕ) → WriteAnswer.Written n ≡ answer_in x room → (Needed.Bytes n ≡ x) × (n ≤ room)
-wrote (Needed.Bytes m) room n e = go (ltb room m) refl e
+wrote : (x : Result ℕ WritableError) (room n : ℕ) → Ok n ≡ answer_in x room → (Ok n ≡ x) × (n ≤ room)
+wrote (Ok m) room n e = go (ltb room m) refl e
   where
-    go : (b : Bool) → ltb room m ≡ b → WriteAnswer.Written n ≡ (elim b as (λ c. WriteAnswer) [ true ↦ WriteAnswer.TooShort m | false ↦ WriteAnswer.Written m ]) → (Needed.Bytes n ≡ Needed.Bytes m) × (n ≤ room)
+    go : (b : Bool) → ltb room m ≡ b → Ok n ≡ (elim b as (λ c. (Result ℕ WriteError)) [ true ↦ Err (WriteError.TooShort m) | false ↦ Ok m ]) → (◌≡◌ {A = Result ℕ WritableError} (Ok n) (Ok m)) × (n ≤ room)
     go true q w =
         let y : ◌≡◌ {A = ℕ} 0 1 = cc in
         absurd (omega arith)
     go false q w =
         let x : n ≡ m = cc in
-        (ap Needed.Bytes x, omega (arith, x, ltb-false room m q))
-wrote (Needed.Refused f) room n e =
-    let y : ◌≡◌ {A = ℕ} 0 1 = cc in
-    absurd (omega arith)
-wrote (Needed.NoRoom row) room n e =
+        (ap Ok x, omega (arith, x, ltb-false room m q))
+wrote (Err u) room n e =
     let y : ◌≡◌ {A = ℕ} 0 1 = cc in
     absurd (omega arith)
 
 -- What the reader answers of a file that the rules read, with a table that has room.
 module _ (o : Outcome File) (f : File) (first : ℕ) (e : o ≡ read f first) (n : DnaCounts) (end : ℕ) (l : f.chain.last ≡ read n end)
-    (u u' : List ℕ) (fits : length f.chain.rows ≤ length u / per_row) (a : BlendAnswer) (p : paper_blend a ≡ read_as o (length u / per_row)) (q : u' ≡ table_after o u) where
-  answered : read_as o (length u / per_row) ≡ paper_blend (BlendAnswer.Is (answer_of f n end))
+    (u u' : List ℕ) (fits : length f.chain.rows ≤ length u / per_row) (a : Result RawBlend BlendError) (p : paper_blend a ≡ read_as o (length u / per_row)) (q : u' ≡ table_after o u) where
+  answered : read_as o (length u / per_row) ≡ paper_blend (Ok (answer_of f n end))
   unfolding read_as
   answered =
       ap (λ (x : Outcome File). read_as x (length u / per_row)) e ∙ ap (answer_for f.header (length f.chain.rows) (length u / per_row)) l ∙ failed _ _ (le-ltb _ _ fits)
 
-  answer-is : a ≡ BlendAnswer.Is (answer_of f n end)
-  answer-is = whole-blend a (BlendAnswer.Is (answer_of f n end)) (p ∙ answered)
+  answer-is : a ≡ Ok (answer_of f n end)
+  answer-is = whole-blend a (Ok (answer_of f n end)) (p ∙ answered)
 
   table_is : u' ≡ over (row_table f.chain.rows) u
   table_is = q ∙ ap (λ (x : Paper). written x (row_table (rows_of o)) u) answered ∙ ap (λ (x : Outcome File). over (row_table (rows_of x)) u) e
@@ -104,17 +101,17 @@ same_at h s z ys d (r ∷ rs) (q ∷ qs) zero w k l = w.0
 same_at h s z ys d (r ∷ rs) (q ∷ qs) (suc i) w k l = same_at h s z ys d rs qs i w.1 (omega arith) (omega arith)
 
 -- the last row is the one that is taken last
-last_row : (e : Endianness) (s : List ℕ) (r : Row) (rs : List Row) (last l : Last) → AllTaken e s (r ∷ rs) last l → RowTaken e s (get_or (r ∷ rs) (length rs) none) l
+last_row : (e : Endianness) (s : List ℕ) (r : Row) (rs : List Row) (last l : Option DnaCounts) → AllTaken e s (r ∷ rs) last l → RowTaken e s (get_or (r ∷ rs) (length rs) none) l
 last_row e s r [] last l t = subst (RowTaken e s r) t.2 t.1
 last_row e s r (q ∷ qs) last l t = last_row e s q qs t.0 l t.2
 
-last_taken : (e : Endianness) (s : List ℕ) (rs : List Row) (d : DnaCounts) → AllTaken e s rs Last.Other (Last.Dna d) → RowTaken e s (get_or rs (length rs - 1) none) (Last.Dna d)
+last_taken : (e : Endianness) (s : List ℕ) (rs : List Row) (d : DnaCounts) → AllTaken e s rs None (Some d) → RowTaken e s (get_or rs (length rs - 1) none) (Some d)
 last_taken e s [] d t =
     let y : ◌≡◌ {A = ℕ} 0 1 = cc in
     absurd (omega arith)
 last_taken e s (r ∷ rs) d t =
     let i : suc (length rs) - 1 ≡ length rs = omega arith in
-    subst (λ (k : ℕ). RowTaken e s (get_or (r ∷ rs) k none) (Last.Dna d)) (sym i) (last_row e s r rs Last.Other (Last.Dna d) t)
+    subst (λ (k : ℕ). RowTaken e s (get_or (r ∷ rs) k none) (Some d)) (sym i) (last_row e s r rs None (Some d) t)
 
 -- there is a row
 rows-some : (h : Header) (s : List ℕ) (rs : List Row) (n : ℕ) → Accepts h s rs n → 0 < length rs
@@ -131,7 +128,7 @@ row_of t rows i k =
     row_at t rows 0 i k ∙ ap (row_spelt t) z
 
 -- A file that was written.
-module _ (h : Header) (t : List ℕ) (rows : ℕ) (s out out' : List ℕ) (n : ℕ) (w : «writer::write» h t rows s out (WriteAnswer.Written n) out') where
+module _ (h : Header) (t : List ℕ) (rows : ℕ) (s out out' : List ℕ) (n : ℕ) (w : «writer::write» h t rows s out (Ok n) out') where
   abbrev rs : List Row
   rs = rows_in t rows
 
@@ -158,7 +155,7 @@ module _ (h : Header) (t : List ℕ) (rows : ℕ) (s out out' : List ℕ) (n : �
   header-first : header_out h ≡ header_part h out'
   header-first = sym (ap (take first) (w.1 ∙ in_parts h s rs n can ys) ∙ take_at (header_out h) _ first (header_out-length h))
 
-  module _ (u u' : List ℕ) (room : rows ≤ length u / per_row) (a : BlendAnswer) (c : «blend::blend» out' u a u') where
+  module _ (u u' : List ℕ) (room : rows ≤ length u / per_row) (a : Result RawBlend BlendError) (c : «blend::blend» out' u a u') where
     fits : length (placed h first rs) ≤ length u / per_row
     fits = rw many room
 
@@ -180,7 +177,7 @@ module _ (h : Header) (t : List ℕ) (rows : ℕ) (s out out' : List ℕ) (n : �
         record {
           counts = can.counts;
           answer = answer-is (file_by header_bytes out') (as_file h s rs n can ys) first found can.counts n refl u u' fits a c.0 c.1
-              ∙ ap (λ (m : ℕ). BlendAnswer.Is (record { header = h; rows = m; end = n; dna = can.counts })) many;
+              ∙ ap (λ (m : ℕ). (Ok (record { header = h; rows = m; end = n; dna = can.counts }))) many;
           table = rows_are;
           payload = shown;
           last = (some.end, dna-found h.endianness _ _ _ can.counts some.end some.found ∙ ap (λ (p : List ℕ). counts_only (run (catalogue h.endianness) p 0)) (ap (payload_of s) (ap (λ (m : ℕ). get_or rs m none) k ∙ row_of t rows (rows - 1) (omega (arith, rows-some h s rs n can, rows-many t rows 0)))));
@@ -196,14 +193,14 @@ pub rest-kept : RestKept
 rest-kept h t rows s out out' n w =
     let rs = rows_in t rows in
     let a = can h t rows s out out' n w in
-    let long : length (file_out h s rs) ≡ n = file_out-length h s rs (taken-inside h.endianness s rs Last.Other (Last.Dna a.counts) a.taken) ∙ sym a.long in
+    let long : length (file_out h s rs) ≡ n = file_out-length h s rs (taken-inside h.endianness s rs None (Some a.counts) a.taken) ∙ sym a.long in
     ((wrote (needed_of h t rows s) (length out) n w.0).1, ap (take n) w.1 ∙ take_at (file_out h s rs) _ n long, ap (drop n) w.1 ∙ drop_at (file_out h s rs) _ n long ∙ ap (λ (k : ℕ). drop k out) long)
 
 pub numbers-written : NumbersWritten
 numbers-written = record { back = bytes_of-spell; again = spelled-bytes_of }
 
 -- A file that was read, and whose header has room and is written as it was.
-module _ (s t t' : List ℕ) (b : RawBlend) (slice : Slice s) (c : «blend::blend» s t (BlendAnswer.Is b) t') (fits : header_fits b.header ≡ true)
+module _ (s t t' : List ℕ) (b : RawBlend) (slice : Slice s) (c : «blend::blend» s t (Ok b) t') (fits : header_fits b.header ≡ true)
     (same : header_out b.header ≡ header_part b.header s) where
   acc : Accepted (file_by header_bytes s) t t' b
   acc = answers.accepted (file_by header_bytes s) t t' b c.0 c.1
@@ -243,10 +240,10 @@ module _ (s t t' : List ℕ) (b : RawBlend) (slice : Slice s) (c : «blend::blen
 
   pub written_as : WrittenAs b.header b.rows t' b.end s
   written_as out out' a room w =
-      let need : needed_of b.header t' b.rows s ≡ Needed.Bytes b.end = needed_rows b.header t' b.rows s there ∙ accepted b.header s (rows_in t' b.rows) b.end can-again in
-      let ans : a ≡ WriteAnswer.Written b.end = w.0 ∙ ap (λ (x : Needed). answer_in x (length out)) need ∙ failed _ _ (le-ltb _ _ room) in
+      let need : needed_of b.header t' b.rows s ≡ (Ok b.end) = needed_rows b.header t' b.rows s there ∙ accepted b.header s (rows_in t' b.rows) b.end can-again in
+      let ans : a ≡ (Ok b.end) = w.0 ∙ ap (λ (x : Result ℕ WritableError). answer_in x (length out)) need ∙ failed _ _ (le-ltb _ _ room) in
       let long : length (file_out b.header s (rows_in t' b.rows)) ≡ b.end = ap length bytes-again ∙ length-take-le b.end s inside in
-      (ans, ap (take b.end) (w.1 ∙ ap (λ (x : WriteAnswer). output_after x b.header t' b.rows s out) ans) ∙ take_at _ _ b.end long ∙ bytes-again)
+      (ans, ap (take b.end) (w.1 ∙ ap (λ (x : Result ℕ WriteError). output_after x b.header t' b.rows s out) ans) ∙ take_at _ _ b.end long ∙ bytes-again)
 
 pub written-again : WrittenAgain
 written-again h t rows s out out' n slice w u u' b c =

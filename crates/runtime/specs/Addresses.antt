@@ -1,11 +1,11 @@
 -- Addresses: the search for an address in the row table, and a block's code.
-use Rattle.std.specs.Prelude.{ℕ, zero, suc, ◌+◌, ◌/◌, ◌%◌, ◌^◌, Bool, true, false, ◌&&◌, List, [], ◌∷◌, ltb, eqb, length}
+use Rattle.std.specs.Prelude.{ℕ, zero, suc, ◌+◌, ◌/◌, ◌%◌, ◌^◌, Bool, true, false, ◌&&◌, List, [], ◌∷◌, ltb, eqb, length, Result, Option, Some, None}
 use Rattle.octets.specs.Paper.{Paper}
-use Rattle.octets.specs.Paper.Paper.{accepts, refuses}
-use Rattle.octets.specs.Refusals.{not_there}
+use Rattle.octets.specs.Paper.Paper.{accepts}
+use Rattle.octets.specs.Refusals.{not_there, paper_answer}
 use Rattle.block.specs.declared.Kind.{Kind}
 use Rattle.runtime.specs.declared.runtime.Pointer.{Pointer}
-use Rattle.runtime.specs.declared.runtime.BlockCode.{BlockCode}
+use Rattle.octets.specs.declared.Refusal.{Refusal}
 use Rattle.block.specs.Kinds.{kind_of, about}
 use Rattle.block.specs.Rows.{Column, per_row, cell}
 
@@ -41,11 +41,13 @@ lookup_as t rows address =
       | false ↦ elim (eqb address 0) [ true ↦ null | false ↦ seek (λ row. matches address (cell t row Column.code) (cell t row Column.address)) rows 0 ]
     ]
 
-abbrev pub paper_pointer : Pointer → Paper
-paper_pointer Pointer.Null = null
-paper_pointer (Pointer.Block row) = found row
-paper_pointer Pointer.Missing = missing
-paper_pointer (Pointer.Refused n) = refuses n []
+abbrev pub pointer : Pointer → Paper
+pointer Pointer.Null = null
+pointer (Pointer.Block row) = found row
+pointer Pointer.Missing = missing
+
+abbrev pub paper_pointer : Result Pointer Refusal → Paper
+paper_pointer r = paper_answer pointer r
 
 -- The code asked of a block is its 4 bytes (answer 0); of a DATA block, none (1), and none of a number that is no block code.
 abbrev pub four_bytes : ℕ → List ℕ
@@ -57,6 +59,6 @@ has_code k = (about k).coded
 unfoldable pub code_as : ℕ → Paper
 code_as n = elim (has_code (kind_of n)) [ true ↦ accepts 0 (four_bytes n) | false ↦ accepts 1 [] ]
 
-abbrev pub paper_code : BlockCode → Paper
-paper_code (BlockCode.Is a b c d) = accepts 0 (a ∷ b ∷ c ∷ d ∷ [])
-paper_code BlockCode.None = accepts 1 []
+abbrev pub paper_code : Option (List ℕ) → Paper
+paper_code (Some bs) = accepts 0 bs
+paper_code None = accepts 1 []

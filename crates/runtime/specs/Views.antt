@@ -1,10 +1,10 @@
 -- Views: the file's part at a row's payload offset and length.
-use Rattle.std.specs.Prelude.{ℕ, ◌/◌, Bool, true, false, ◌&&◌, List, [], ltb, length, take, drop}
+use Rattle.std.specs.Prelude.{ℕ, ◌/◌, Bool, true, false, ◌&&◌, List, [], ltb, length, take, drop, Result}
 use Rattle.octets.specs.Paper.{Paper}
-use Rattle.octets.specs.Paper.Paper.{accepts, refuses}
+use Rattle.octets.specs.Paper.Paper.{accepts}
 use Rattle.octets.specs.Reader.{room}
-use Rattle.octets.specs.Refusals.{not_there}
-use Rattle.runtime.specs.declared.runtime.ViewAnswer.{ViewAnswer}
+use Rattle.octets.specs.Refusals.{not_there, paper_answer}
+use Rattle.octets.specs.declared.Refusal.{Refusal}
 use Rattle.block.specs.Rows.{Column, per_row, cell}
 
 -- whether the table has the row
@@ -23,6 +23,5 @@ view_as s t row = elim (is_there s t row) [ true ↦ accepts 0 [] | false ↦ no
 unfoldable pub part_as : List ℕ → List ℕ → ℕ → List ℕ
 part_as s t row = elim (is_there s t row) [ true ↦ take (cell t row Column.len) (drop (cell t row Column.payload) s) | false ↦ [] ]
 
-abbrev pub paper_view : ViewAnswer → Paper
-paper_view ViewAnswer.There = accepts 0 []
-paper_view (ViewAnswer.Refused n) = refuses n []
+abbrev pub paper_view : Result (Unit {0}) Refusal → Paper
+paper_view r = paper_answer (λ u. accepts 0 []) r

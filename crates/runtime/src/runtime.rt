@@ -5,16 +5,8 @@ ghost use Rattle.block.specs.Rows.{per_row};
 ghost use Rattle.runtime.specs.Calls as calls;
 
 use block::{Kind, Row};
-use octets::Fault;
-use octets::cursor::{Cursor, Moved};
-
-/// Whether there is a view of a row.
-#[derive(Clone, Copy)]
-pub enum ViewAnswer {
-    There,
-    // Refusal 13.
-    Refused(u64),
-}
+use octets::Refusal;
+use octets::cursor::Cursor;
 
 // One of a row's numbers, by its column.
 fn cell(table: &[u64], row: usize, i: usize) -> u64
@@ -25,19 +17,18 @@ fn cell(table: &[u64], row: usize, i: usize) -> u64
 }
 
 /// Whether the table has the row and the file the part that it tells of.
-pub fn view(file: &[u8], table: &[u64], row: usize) -> ViewAnswer
+pub fn view(file: &[u8], table: &[u64], row: usize) -> Result<(), Refusal>
     ensures { calls.«runtime::view» file.now table.now row result }
 {
-    if row < table.len() / Row::NUMBERS {
-        let payload = Cursor {
-            at: cell(table, row, Row::PAYLOAD) as usize,
-        };
-        match payload.skip(file, cell(table, row, Row::LEN) as usize) {
-            Moved::To(_) => ViewAnswer::There,
-            Moved::Stopped(_) => ViewAnswer::Refused(Fault::NOT_THERE),
-        }
-    } else {
-        ViewAnswer::Refused(Fault::NOT_THERE)
+    if table.len() / Row::NUMBERS <= row {
+        return Err(Refusal::NotThere);
+    }
+    let payload = Cursor {
+        at: cell(table, row, Row::PAYLOAD) as usize,
+    };
+    match payload.skip(file, cell(table, row, Row::LEN) as usize) {
+        Ok(_) => Ok(()),
+        Err(_) => Err(Refusal::NotThere),
     }
 }
 
@@ -56,14 +47,12 @@ pub fn view_part<'a>(file: &'a [u8], table: &[u64], row: usize) -> &'a [u8]
 }
 
 /// What an address points to.
-#[derive(Clone, Copy)]
+#[derive(Clone, Copy, Debug, PartialEq, Eq)]
 pub enum Pointer {
     Null,
-    // The number of the row.
+    /// The number of the row.
     Block(usize),
     Missing,
-    // Refusal 13: the table has fewer rows.
-    Refused(u64),
 }
 
 /// Whether a row with this code and this address answers the search.
@@ -71,54 +60,41 @@ pub fn matches(wanted: u64, code: u64, address: u64) -> bool
     ensures { calls.«runtime::matches» wanted code address result }
 {
     let about = Kind::of_code(code).about();
-    if about.found {
-        address == wanted
-    } else {
-        false
-    }
+    about.found && address == wanted
 }
 
-/// The first of the table's first rows that has the address and is a Principal or a Subsidiary.
-pub fn get_ptr(table: &[u64], rows: usize, address: u64) -> Pointer
+/// The first of the table's first rows that has the address and is a Principal or a Subsidiary; refusal 13 where the table has fewer rows.
+pub fn get_ptr(table: &[u64], rows: usize, address: u64) -> Result<Pointer, Refusal>
     ensures { calls.runtime::get_ptr table.now rows address result }
 {
     if table.len() / Row::NUMBERS < rows {
-        return Pointer::Refused(Fault::NOT_THERE);
+        return Err(Refusal::NotThere);
     }
     if address == 0 {
-        return Pointer::Null;
+        return Ok(Pointer::Null);
     }
-    let mut row = 0;
-    while row < rows {
+    for row in 0..rows {
         let code = cell(table, row, Row::CODE);
         if matches(address, code, cell(table, row, Row::ADDRESS)) {
-            return Pointer::Block(row);
+            return Ok(Pointer::Block(row));
         }
-        row += 1;
     }
-    Pointer::Missing
+    Ok(Pointer::Missing)
 }
 
-/// A block's code, byte by byte.
-#[derive(Clone, Copy)]
-pub enum BlockCode {
-    Is(u8, u8, u8, u8),
-    None,
-}
-
-/// The code that a row's code number stands for.
-pub fn code(number: u64) -> BlockCode
+/// The code, byte by byte, that a row's code number stands for.
+pub fn code(number: u64) -> Option<[u8; 4]>
     ensures { calls.«runtime::code» number result }
 {
     let about = Kind::of_code(number).about();
     if about.coded {
-        BlockCode::Is(
+        Some([
             (number / 0x100_0000 % 256) as u8,
             (number / 0x1_0000 % 256) as u8,
             (number / 0x100 % 256) as u8,
             (number % 256) as u8,
-        )
+        ])
     } else {
-        BlockCode::None
+        None
     }
 }

@@ -1,290 +1,144 @@
 // Reads the examples of files and nine real scenes: prints the blocks, walks them, and asks for their views, addresses and codes; then the
-// catalogue of a real scene, in both byte orders. The file stdout has what that has to be.
+// catalogue of a real scene, in both byte orders. The file stdout has what that has to be. What cannot be written is passed over.
 #![tactic(auto)]
 
 mod catalogue;
 
-ghost use Rattle.std.specs.Prelude.{◌≤◌, length};
+ghost use Rattle.std.specs.Prelude.{◌*◌, ◌^◌, ◌<◌};
 
-use blend::blend::{BlendAnswer, blend};
+use blend::blend::{BlendError, RawBlend, blend};
 use block::Row;
-use dna::dna::DnaCounts;
-use header::blend::{HeaderAnswer, header};
-use header::{FileFormat, Header};
+use header::blend::header;
 use held::{find_in, step_from};
-use octets::{Endianness, Fault, PointerSize};
-use runtime::runtime::{BlockCode, Pointer, ViewAnswer, code, get_ptr, view, view_part};
-use std::fs;
-use std::io::Read;
+use octets::{Endianness, Refusal};
+use runtime::runtime::{Pointer, code, get_ptr, view, view_part};
 use std::rt::Files;
+use std::{fs, io};
 use walker::{Place, Step};
 
 // What a table holds before a call: as a code it is none, and as an offset it lies past every file.
 const FILL: u64 = 1000000007;
 
-// What cannot be written is passed over.
-fn text(rt: &impl Print, s: &str) {
-    let _ = print!(rt; "{s}");
-}
+// The rows of a table that has enough for every file here, and its numbers.
+const ROWS: usize = 512;
 
-fn number(rt: &impl Print, label: &str, n: u64) {
-    let _ = print!(rt; "{label}{n}");
-}
+const NUMBERS: usize = ROWS * Row::NUMBERS;
 
-// At least so many hex digits.
-fn hex(rt: &impl Print, n: u64, digits: usize) {
-    let _ = print!(rt; "{n:0digits$x}");
-}
-
-fn wide(b: u8) -> u64 {
-    b as u64
-}
-
-// One of a row's seven numbers, 0 where the table has none.
-fn cell(table: &[u64], row: usize, i: usize) -> u64 {
-    if i < Row::NUMBERS {
-        if row < table.len() / Row::NUMBERS {
-            return table[row * Row::NUMBERS + i];
-        }
-    }
-    0
-}
-
-// A number made of all bytes and of their order.
-fn sum(bytes: &[u8]) -> u64 {
-    let mut all: u64 = 0;
-    for b in bytes {
-        all = (all * 31 + wide(*b) % 256) % 4294967296;
+// A number made of the low 16 bits of all numbers and of their order.
+fn sum<T: Copy + Into<u64>>(numbers: &[T]) -> u32 {
+    let mut all = 0u32;
+    for n in numbers {
+        let n: u64 = (*n).into();
+        all = all.wrapping_mul(31).wrapping_add((n % 65536) as u32);
     }
     all
 }
 
+// A row of its numbers. As vectors has it, which knows none of this program: seven names are no plainer as a conversion that a library promises.
+fn row_of(numbers: &[u64; Row::NUMBERS]) -> Row {
+    let [code, address, index, count, at, payload, len] = *numbers;
+    Row {
+        code,
+        address,
+        index,
+        count,
+        at,
+        payload,
+        len,
+    }
+}
+
+// A line for each of the first rows.
+fn each_row<F: Fn(usize, Row)>(table: &[u64], rows: usize, line: F)
+    requires { F.IsAlwaysCallable line }
+{
+    let (table, _) = table.as_chunks();
+    for (row, numbers) in table.iter().take(rows).enumerate() {
+        line(row, row_of(numbers));
+    }
+}
+
 // Whether a table's numbers from one on are those that it was filled with.
-fn kept(table: &[u64], from: usize) -> bool {
-    for i in from..table.len() {
-        if table[i] != FILL {
-            return false;
-        }
-    }
-    true
-}
-
 fn kept_line(rt: &impl Print, table: &[u64], from: usize) {
-    number(rt, "table from ", from as u64);
-    if kept(table, from) {
-        text(rt, " unchanged\n");
-    } else {
-        text(rt, " changed\n");
-    }
-}
-
-fn header_numbers(rt: &impl Print, h: Header) {
-    let format = h.format;
-    let size = h.pointer_size;
-    let order = h.endianness;
-    let version = h.version;
-    match format {
-        FileFormat::Legacy => text(rt, " legacy"),
-        FileFormat::New => text(rt, " new"),
-    }
-    match size {
-        PointerSize::Bits32 => text(rt, " 32"),
-        PointerSize::Bits64 => text(rt, " 64"),
-    }
-    match order {
-        Endianness::Little => text(rt, " little"),
-        Endianness::Big => text(rt, " big"),
-    }
-    number(rt, " ", version.major as u64);
-    number(rt, " ", version.minor as u64);
-}
-
-// A refusal's number and, of 16 and 17, the offset that it carries.
-fn refused(rt: &impl Print, f: Fault) {
-    number(rt, "refused ", f.refusal());
-    match f {
-        Fault::Refusal(_) => text(rt, ""),
-        _ => number(rt, " ", f.place() as u64),
-    }
+    let kept = table.iter().skip(from).all(|n| *n == FILL);
+    let _ = println!(rt;
+        "table from {from} {}",
+        if kept { "unchanged" } else { "changed" }
+    );
 }
 
 // A header alone, with its length.
-fn header_line(rt: &impl Print, file: &[u8]) {
-    text(rt, "header of \"");
-    let _ = rt.write_all(file);
-    text(rt, "\": ");
-    match header(file) {
-        HeaderAnswer::Is(h, len) => {
-            number(rt, "bytes ", len as u64);
-            header_numbers(rt, h);
-        }
-        HeaderAnswer::Refused(f) => refused(rt, f),
-    }
-    text(rt, "\n");
+fn header_line(rt: &impl Print, file: &str) {
+    let _ = match header(file.as_bytes()) {
+        Ok((h, len)) => println!(rt; "header of \"{file}\": bytes {len} {h}"),
+        Err(f) => println!(rt; "header of \"{file}\": refused {f}"),
+    };
 }
 
-fn block_line(rt: &impl Print, table: &[u64], row: usize) {
-    number(rt, "block ", row as u64);
-    text(rt, " ");
-    hex(rt, cell(table, row, Row::CODE), 8);
-    number(rt, " ", cell(table, row, Row::ADDRESS));
-    number(rt, " ", cell(table, row, Row::INDEX));
-    number(rt, " ", cell(table, row, Row::COUNT));
-    number(rt, " ", cell(table, row, Row::AT));
-    number(rt, " ", cell(table, row, Row::PAYLOAD));
-    number(rt, " ", cell(table, row, Row::LEN));
-    text(rt, "\n");
-}
-
-// Whether the part is there, its length and its sum.
-fn view_of(rt: &impl Print, file: &[u8], table: &[u64], row: usize) {
-    number(rt, "view ", row as u64);
-    match view(file, table, row) {
-        ViewAnswer::There => text(rt, " there"),
-        ViewAnswer::Refused(_) => text(rt, " refused 13"),
-    }
-    let part = view_part(file, table, row);
-    number(rt, " length ", part.len() as u64);
-    number(rt, " sum ", sum(part));
+fn block_line(rt: &impl Print, row: usize, r: Row) {
+    let Row {
+        code,
+        address,
+        index,
+        count,
+        at,
+        payload,
+        len,
+    } = r;
+    let _ = println!(rt; "block {row} {code:08x} {address} {index} {count} {at} {payload} {len}");
 }
 
 // An address that was looked for among so many rows, and the answer.
-fn pointer(rt: &impl Print, rows: usize, address: u64, found: Pointer) {
-    number(rt, "address ", address);
-    number(rt, " in ", rows as u64);
-    match found {
-        Pointer::Null => text(rt, " null"),
-        Pointer::Block(row) => number(rt, " row ", row as u64),
-        Pointer::Missing => text(rt, " missing"),
-        Pointer::Refused(_) => text(rt, " refused 13"),
-    }
-}
-
-fn pointer_to(rt: &impl Print, table: &[u64], rows: usize, address: u64) {
-    pointer(rt, rows, address, get_ptr(table, rows, address));
-}
-
-fn code_of(rt: &impl Print, n: u64) {
-    text(rt, "code ");
-    hex(rt, n, 8);
-    match code(n) {
-        BlockCode::Is(a, b, c, d) => {
-            text(rt, " is ");
-            hex(rt, wide(a), 2);
-            hex(rt, wide(b), 2);
-            hex(rt, wide(c), 2);
-            hex(rt, wide(d), 2);
-        }
-        BlockCode::None => text(rt, " none"),
-    }
-}
-
-fn view_line(rt: &impl Print, file: &[u8], table: &[u64], row: usize) {
-    view_of(rt, file, table, row);
-    text(rt, "\n");
-}
-
-fn pointer_line(rt: &impl Print, table: &[u64], rows: usize, address: u64) {
-    pointer_to(rt, table, rows, address);
-    text(rt, "\n");
+fn pointer(rt: &impl Print, rows: usize, address: u64, found: Result<Pointer, Refusal>) {
+    let _ = print!(rt; "address {address} in {rows} ");
+    let _ = match found {
+        Ok(Pointer::Null) => print!(rt; "null"),
+        Ok(Pointer::Block(row)) => print!(rt; "row {row}"),
+        Ok(Pointer::Missing) => print!(rt; "missing"),
+        Err(r) => print!(rt; "refused {r}"),
+    };
 }
 
 fn code_line(rt: &impl Print, n: u64) {
-    code_of(rt, n);
-    text(rt, "\n");
+    let _ = match code(n) {
+        Some(bytes) => println!(rt; "code {n:08x} is {:08x}", u32::from_be_bytes(bytes)),
+        None => println!(rt; "code {n:08x} none"),
+    };
 }
 
-// A row's view, the row that its address leads to, and its code.
-fn asked_line(rt: &impl Print, file: &[u8], table: &[u64], rows: usize, row: usize) {
-    view_of(rt, file, table, row);
-    text(rt, " ");
-    pointer_to(rt, table, rows, cell(table, row, Row::ADDRESS));
-    text(rt, " ");
-    code_line(rt, cell(table, row, Row::CODE));
-}
-
-// What a line for each row is to say.
-#[derive(Clone, Copy)]
-enum Line {
-    Numbers,
-    Asked,
-}
-
-fn row_line(rt: &impl Print, line: Line, file: &[u8], table: &[u64], rows: usize, row: usize) {
-    match line {
-        Line::Numbers => block_line(rt, table, row),
-        Line::Asked => asked_line(rt, file, table, rows, row),
-    }
-}
-
-fn each_row(rt: &impl Print, line: Line, file: &[u8], table: &[u64], rows: usize) {
-    for row in 0..rows {
-        row_line(rt, line, file, table, rows, row);
-    }
-}
-
-fn dna_line(rt: &impl Print, n: DnaCounts) {
-    number(rt, "dna ", n.names);
-    number(rt, " ", n.types);
-    number(rt, " ", n.structs);
-    number(rt, " ", n.fields);
-    text(rt, "\n");
+fn pointer_line(rt: &impl Print, table: &[u64], rows: usize, address: u64) {
+    pointer(rt, rows, address, get_ptr(table, rows, address));
+    let _ = println!(rt);
 }
 
 // What the reader answers, with the rows that it wrote; and how many these are.
-fn list(rt: &impl Print, answer: BlendAnswer, file: &[u8], table: &[u64]) -> usize {
+fn list(rt: &impl Print, answer: Result<RawBlend, BlendError>, table: &[u64]) -> usize {
     match answer {
-        BlendAnswer::Is(b) => {
-            let h = b.header;
-            let n = b.dna;
-            let rows = b.rows;
-            text(rt, "blend");
-            header_numbers(rt, h);
-            text(rt, "\n");
-            each_row(rt, Line::Numbers, file, table, rows);
-            dna_line(rt, n);
-            number(rt, "end ", b.end as u64);
-            text(rt, "\n");
+        Ok(b) => {
+            let RawBlend {
+                header,
+                rows,
+                end,
+                dna,
+            } = b;
+            let _ = println!(rt; "blend {header}");
+            each_row(table, rows, |row, r| block_line(rt, row, r));
+            let _ = println!(rt;
+                "dna {} {} {} {}",
+                dna.names, dna.types, dna.structs, dna.fields
+            );
+            let _ = println!(rt; "end {end}");
             rows
         }
-        BlendAnswer::Refused(f) => {
-            refused(rt, f);
-            text(rt, "\n");
+        Err(BlendError::Fault(f)) => {
+            let _ = println!(rt; "refused {f}");
             0
         }
-        BlendAnswer::TableTooShort(rows) => {
-            number(rt, "refused 7 ", rows as u64);
-            text(rt, "\n");
+        Err(BlendError::TableTooShort(rows)) => {
+            let _ = println!(rt; "refused {} {rows}", Refusal::BLOCK_TABLE_TOO_SHORT);
             0
         }
     }
-}
-
-fn is_row(table: &[u64], row: usize, r: Row) -> bool {
-    if cell(table, row, Row::CODE) != r.code {
-        return false;
-    }
-    if cell(table, row, Row::ADDRESS) != r.address {
-        return false;
-    }
-    if cell(table, row, Row::INDEX) != r.index {
-        return false;
-    }
-    if cell(table, row, Row::COUNT) != r.count {
-        return false;
-    }
-    if cell(table, row, Row::AT) != r.at {
-        return false;
-    }
-    if cell(table, row, Row::PAYLOAD) != r.payload {
-        return false;
-    }
-    cell(table, row, Row::LEN) == r.len
-}
-
-// Whether all blocks so far were the table's rows, with one more.
-fn still(same: bool, table: &[u64], row: usize, r: Row) -> bool {
-    if same { is_row(table, row, r) } else { false }
 }
 
 // Where a walk came to, after how many blocks, and whether they were the table's rows.
@@ -295,123 +149,140 @@ struct Walked {
     same: bool,
 }
 
-// From the start to the first step that gives no block; at most as many blocks as the table has rows.
-fn walk(file: &[u8], table: &[u64]) -> Walked {
-    let mut place = Place::start();
-    let mut blocks = 0;
-    let mut same = true;
-    while blocks < table.len() / Row::NUMBERS {
-        match place.step(file) {
-            Step::Block(r, next) => {
-                same = still(same, table, blocks, r);
-                place = next;
-                blocks += 1;
-            }
-            _ => {
-                return Walked {
-                    place,
-                    blocks,
-                    same,
-                };
-            }
-        }
-    }
-    Walked {
-        place,
-        blocks,
-        same,
-    }
-}
-
 // A step's answer, and the place that it hands back, by a walker that holds the file.
 fn step_line(rt: &impl Print, label: &str, place: Place, file: &[u8]) -> Place {
-    text(rt, label);
     match step_from(file, place) {
         Step::Block(r, next) => {
-            number(rt, "block at ", r.at);
+            let _ = print!(rt; "{label} block at {}", r.at);
             next
         }
         Step::End(at, next) => {
-            number(rt, "end ", at as u64);
+            let _ = print!(rt; "{label} end {at}");
             next
         }
         Step::Refused(f, next) => {
-            refused(rt, f);
+            let _ = print!(rt; "{label} refused {f}");
             next
         }
     }
 }
 
 // A place past the end of every file here.
-fn past() -> Place {
-    Place {
-        at: 1000000,
-        dna: true,
-    }
+const PAST: Place = Place {
+    at: 1000000,
+    dna: true,
+};
+
+// What is asked after a reading: the file, the table, and how many of its rows the file's blocks have.
+#[derive(Clone, Copy)]
+struct Reading<'a> {
+    file: &'a [u8],
+    table: &'a [u64],
+    rows: usize,
 }
 
-// The walk, the step after its blocks, and that step once more; then a step from a place past the end.
-fn walk_line(rt: &impl Print, file: &[u8], table: &[u64]) {
-    let w = walk(file, table);
-    let place = w.place;
-    number(rt, "walk ", w.blocks as u64);
-    if w.same {
-        text(rt, " as in the table");
-    } else {
-        text(rt, " not as in the table");
+impl<'a> Reading<'a> {
+    // From the start to the first step that gives no block; at most as many blocks as the table has rows.
+    fn walk(self) -> Walked {
+        let mut place = Place::start();
+        let mut same = true;
+        let (table, _) = self.table.as_chunks();
+        for (blocks, numbers) in table.iter().enumerate() {
+            let Step::Block(r, next) = place.step(self.file) else {
+                return Walked {
+                    place,
+                    blocks,
+                    same,
+                };
+            };
+            same = same && r == row_of(numbers);
+            place = next;
+        }
+        Walked {
+            place,
+            blocks: table.len(),
+            same,
+        }
     }
-    let last = step_line(rt, ", then ", place, file);
-    step_line(rt, ", again ", last, file);
-    step_line(rt, ", past the end ", past(), file);
-    text(rt, "\n");
+
+    // The walk, the step after its blocks, and that step once more; then a step from a place past the end.
+    fn walk_line(self, rt: &impl Print) {
+        let w = self.walk();
+        let same = if w.same { "as" } else { "not as" };
+        let _ = print!(rt; "walk {} {same} in the table", w.blocks);
+        let last = step_line(rt, ", then", w.place, self.file);
+        step_line(rt, ", again", last, self.file);
+        step_line(rt, ", past the end", PAST, self.file);
+        let _ = println!(rt);
+    }
+
+    // Whether a row's part is there, its length and its sum.
+    fn view(self, rt: &impl Print, row: usize) {
+        let _ = match view(self.file, self.table, row) {
+            Ok(()) => print!(rt; "view {row} there"),
+            Err(r) => print!(rt; "view {row} refused {r}"),
+        };
+        let part = view_part(self.file, self.table, row);
+        let _ = print!(rt; " length {} sum {}", part.len(), sum(part));
+    }
+
+    // A row's view, the row that its address leads to, and its code.
+    fn row_line(self, rt: &impl Print, row: usize, r: Row) {
+        self.view(rt, row);
+        let _ = print!(rt; " ");
+        pointer(
+            rt,
+            self.rows,
+            r.address,
+            get_ptr(self.table, self.rows, r.address),
+        );
+        let _ = print!(rt; " ");
+        code_line(rt, r.code);
+    }
+
+    fn view_line(self, rt: &impl Print, row: usize) {
+        self.view(rt, row);
+        let _ = println!(rt);
+    }
 }
 
 // Reads a file, and asks all that can be asked of it; answers the number of rows.
 fn report(rt: &impl Print, file: &[u8], table: &mut [u64]) -> usize {
-    let rows = list(rt, blend(file, table), file, table);
+    let rows = list(rt, blend(file, table), table);
     if rows <= table.len() / Row::NUMBERS {
         kept_line(rt, table, rows * Row::NUMBERS);
     }
-    walk_line(rt, file, table);
-    each_row(rt, Line::Asked, file, table, rows);
-    view_line(rt, file, table, rows);
-    view_line(rt, file, table, 512);
+    let read = Reading { file, table, rows };
+    read.walk_line(rt);
+    each_row(table, rows, |row, r| read.row_line(rt, row, r));
+    read.view_line(rt, rows);
+    read.view_line(rt, ROWS);
     rows
 }
 
+// The tables here are arrays, filled: what a refused call leaves is shown, and the library takes them of any length.
 fn example(rt: &impl Print, title: &str, file: &[u8]) {
-    let mut table = [FILL; 3584];
-    text(rt, title);
-    text(rt, "\n");
+    let mut table = [FILL; NUMBERS];
+    let _ = println!(rt; "{title}");
     report(rt, file, &mut table);
 }
 
-// With 512 rows: the five lines and nothing else.
-fn with_enough(rt: &impl Print, file: &[u8]) {
-    let mut table = [FILL; 3584];
-    list(rt, blend(file, &mut table), file, &table);
-}
-
-// With one row.
-fn with_seven(rt: &impl Print, file: &[u8]) {
-    let mut table = [FILL; Row::NUMBERS];
-    text(rt, "table of 7 numbers\n");
-    list(rt, blend(file, &mut table), file, &table);
+// With a table of so many numbers, which are too few.
+fn with_few<const N: usize>(rt: &impl Print, file: &[u8])
+    requires { N * 8 < 2 ^ 63 }
+{
+    let mut table = [FILL; N];
+    let _ = println!(rt; "table of {N} numbers");
+    list(rt, blend(file, &mut table), &table);
     kept_line(rt, &table, 0);
 }
 
-// With one row and six numbers, which are no row.
-fn with_thirteen(rt: &impl Print, file: &[u8]) {
-    let mut table = [FILL; 13];
-    text(rt, "table of 13 numbers\n");
-    list(rt, blend(file, &mut table), file, &table);
-    kept_line(rt, &table, 0);
-}
-
+// With enough rows: the five lines and nothing else. Then with one row, and with one row and six numbers, which are no row.
 fn hull(rt: &impl Print, file: &[u8]) {
-    with_enough(rt, file);
-    with_seven(rt, file);
-    with_thirteen(rt, file);
+    let mut table = [FILL; NUMBERS];
+    list(rt, blend(file, &mut table), &table);
+    with_few::<7>(rt, file);
+    with_few::<13>(rt, file);
 }
 
 fn hull_file(rt: &impl Print) {
@@ -425,15 +296,16 @@ fn hull_file(rt: &impl Print) {
     );
 }
 
+// Files that are a header or less, and one that ends after it.
+const HEADERS: [&str; 4] = ["BLENDE", "BLENDER", "BLENDER-v280", "BLENDER-v280ENDB"];
+
 fn headers(rt: &impl Print) {
-    header_line(rt, b"BLENDE");
-    header_line(rt, b"BLENDER");
-    header_line(rt, b"BLENDER-v280");
-    header_line(rt, b"BLENDER-v280ENDB");
-    example(rt, "BLENDE", b"BLENDE");
-    example(rt, "BLENDER", b"BLENDER");
-    example(rt, "BLENDER-v280", b"BLENDER-v280");
-    example(rt, "BLENDER-v280ENDB", b"BLENDER-v280ENDB");
+    for file in HEADERS {
+        header_line(rt, file);
+    }
+    for file in HEADERS {
+        example(rt, file, file.as_bytes());
+    }
 }
 
 fn code_of_zeros(rt: &impl Print) {
@@ -483,69 +355,54 @@ fn faults(rt: &impl Print) {
     );
 }
 
-// The search, over a table of 512 rows of which so many are filled.
+// The search, over a table of which so many rows are filled.
 fn pointers(rt: &impl Print, table: &[u64], rows: usize) {
-    pointer_line(rt, table, rows, 0);
-    pointer_line(rt, table, rows, 32);
-    pointer_line(rt, table, rows, 64);
-    pointer_line(rt, table, rows, 16);
-    pointer_line(rt, table, rows, 48);
-    pointer_line(rt, table, 1, 32);
-    pointer_line(rt, table, 512, FILL);
-    pointer_line(rt, table, 513, 32);
-    pointer_line(rt, table, 513, 0);
-}
-
-fn row_of(table: &[u64], row: usize) -> Row {
-    Row {
-        code: cell(table, row, Row::CODE),
-        address: cell(table, row, Row::ADDRESS),
-        index: cell(table, row, Row::INDEX),
-        count: cell(table, row, Row::COUNT),
-        at: cell(table, row, Row::AT),
-        payload: cell(table, row, Row::PAYLOAD),
-        len: cell(table, row, Row::LEN),
+    for address in [0, 32, 64, 16, 48] {
+        pointer_line(rt, table, rows, address);
     }
+    pointer_line(rt, table, 1, 32);
+    pointer_line(rt, table, ROWS, FILL);
+    pointer_line(rt, table, ROWS + 1, 32);
+    pointer_line(rt, table, ROWS + 1, 0);
 }
 
 fn record_line(rt: &impl Print, rows: [Row; 4], n: usize, address: u64) {
-    text(rt, "records ");
+    let _ = print!(rt; "records ");
     pointer(rt, n, address, find_in(rows, n, address));
-    text(rt, "\n");
+    let _ = println!(rt);
 }
 
-// The search again, over the first four rows as records.
-fn records(rt: &impl Print, table: &[u64]) {
-    let a = row_of(table, 0);
-    let b = row_of(table, 1);
-    let c = row_of(table, 2);
-    let d = row_of(table, 3);
-    let rows = [a, b, c, d];
-    record_line(rt, rows, 4, 0);
-    record_line(rt, rows, 4, 32);
-    record_line(rt, rows, 4, 64);
-    record_line(rt, rows, 4, 16);
-    record_line(rt, rows, 4, 48);
+// The search again, over four rows as records.
+fn records(rt: &impl Print, rows: [Row; 4]) {
+    for address in [0, 32, 64, 16, 48] {
+        record_line(rt, rows, 4, address);
+    }
     record_line(rt, rows, 1, 32);
     record_line(rt, rows, 5, 32);
     record_line(rt, rows, 5, 0);
 }
 
 fn codes(rt: &impl Print) {
-    code_line(rt, 0x5245_4e44);
-    code_line(rt, 0x5445_5354);
-    code_line(rt, 0x454e_4442);
-    code_line(rt, 0x4f42_0001);
-    code_line(rt, 0x1_4f42_0000);
+    for n in [
+        0x5245_4e44,
+        0x5445_5354,
+        0x454e_4442,
+        0x4f42_0001,
+        0x1_4f42_0000,
+    ] {
+        code_line(rt, n);
+    }
 }
 
 // A GLOB, an OB and a DATA, the last two with one address.
 fn addresses(rt: &impl Print, file: &[u8]) {
-    let mut table = [FILL; 3584];
-    text(rt, "equal addresses\n");
+    let mut table = [FILL; NUMBERS];
+    let _ = println!(rt; "equal addresses");
     let rows = report(rt, file, &mut table);
     pointers(rt, &table, rows);
-    records(rt, &table);
+    if let ([a, b, c, d, ..], _) = table.as_chunks() {
+        records(rt, [row_of(a), row_of(b), row_of(c), row_of(d)]);
+    }
     codes(rt);
 }
 
@@ -562,24 +419,8 @@ fn addresses_file(rt: &impl Print) {
     );
 }
 
-// What a file of data/ holds.
-#[derive(Drop)]
-enum Held {
-    Scene,
-    Catalogue(Endianness),
-}
-
-fn held_report(rt: &impl Print, held: Held, path: &str, file: &[u8]) {
-    match held {
-        Held::Scene => example(rt, path, file),
-        Held::Catalogue(order) => catalogue::report(rt, path, file, order),
-    }
-}
-
-// Reads until the buffer is full, the file ends or a read fails; how many bytes there are then.
-fn read_full<R: Read + Drop>(mut file: R, buffer: &mut [u8]) -> usize
-    ensures { result ≤ length buffer.new }
-{
+// Reads until the buffer is full, the file ends or a read fails; what there is then. A loop, since what std has for it tries a read again that was interrupted.
+fn read_full<'a, R: io::Read + Drop>(mut file: R, buffer: &'a mut [u8]) -> &'a [u8] {
     let mut n = 0;
     while n < buffer.len() {
         match file.read(&mut buffer[n..]) {
@@ -588,15 +429,17 @@ fn read_full<R: Read + Drop>(mut file: R, buffer: &mut [u8]) -> usize
             Err(_) => break,
         }
     }
-    n
+    &buffer[..n]
 }
 
-fn sample(rt: &(impl Files + Print + Eprint), held: Held, path: &str) {
+// Opens a file of data/, and shows what it has.
+fn sample<F: Fn(&[u8])>(rt: &(impl Files + Print + Eprint), path: &str, show: F)
+    requires { F.IsAlwaysCallable show }
+{
     match fs::open(rt, path) {
         Ok(file) => {
             let mut buffer = [0u8; 131072];
-            let n = read_full(file, &mut buffer);
-            held_report(rt, held, path, &buffer[..n]);
+            show(read_full(file, &mut buffer));
         }
         Err(e) => {
             let _ = eprintln!(rt; "{path}: {e}");
@@ -604,23 +447,35 @@ fn sample(rt: &(impl Files + Print + Eprint), held: Held, path: &str) {
     }
 }
 
+const SCENES: [&str; 9] = [
+    "lamp.blend",
+    "lamp_legacy32big.blend",
+    "lamp_legacy32little.blend",
+    "lamp_legacy64big.blend",
+    "lamp_legacy64little.blend",
+    "lamp_new32big.blend",
+    "lamp_new32little.blend",
+    "lamp_new64big.blend",
+    "lamp_new64little.blend",
+];
+
 fn scenes(rt: &(impl Files + Print + Eprint)) {
-    sample(rt, Held::Scene, "lamp.blend");
-    sample(rt, Held::Scene, "lamp_legacy32big.blend");
-    sample(rt, Held::Scene, "lamp_legacy32little.blend");
-    sample(rt, Held::Scene, "lamp_legacy64big.blend");
-    sample(rt, Held::Scene, "lamp_legacy64little.blend");
-    sample(rt, Held::Scene, "lamp_new32big.blend");
-    sample(rt, Held::Scene, "lamp_new32little.blend");
-    sample(rt, Held::Scene, "lamp_new64big.blend");
-    sample(rt, Held::Scene, "lamp_new64little.blend");
+    for path in SCENES {
+        sample(rt, path, |file| example(rt, path, file));
+    }
 }
 
 // Each in its own order, and one in the other.
+const CATALOGUES: [(&str, Endianness); 3] = [
+    ("little.sdna", Endianness::Little),
+    ("big.sdna", Endianness::Big),
+    ("big.sdna", Endianness::Little),
+];
+
 fn catalogues(rt: &(impl Files + Print + Eprint)) {
-    sample(rt, Held::Catalogue(Endianness::Little), "little.sdna");
-    sample(rt, Held::Catalogue(Endianness::Big), "big.sdna");
-    sample(rt, Held::Catalogue(Endianness::Little), "big.sdna");
+    for (path, order) in CATALOGUES {
+        sample(rt, path, |file| catalogue::report(rt, path, file, order));
+    }
 }
 
 fn main(rt: HostRuntime) {

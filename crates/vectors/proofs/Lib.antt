@@ -1,3 +1,2 @@
 -- Laws for the proofs of this crate.
 pub mod Floats
-pub mod Numerals

@@ -1,54 +1,47 @@
 // An address, 8 bytes in little order, looked for in the file after it; and every row's code.
-use crate::file::{NUMBERS, cell, refused_line, too_short_line};
-use crate::out::{Output, line, text, wide};
-use blend::blend::{BlendAnswer, blend};
-use octets::Endianness;
-use primitive::primitive::{ValueU64, parse_u64};
-use runtime::runtime::{BlockCode, Pointer, code, get_ptr};
+use crate::Output;
+use crate::file::{NUMBERS, refused_line};
+use blend::blend::blend;
+use block::Row;
+use octets::Refusal;
+use runtime::runtime::{Pointer, code, get_ptr};
+use std::io;
+use std::io::Write;
 
-fn code_line(out: &mut Output, n: u64) {
-    match code(n) {
-        BlockCode::Is(a, b, c, d) => line(
-            out,
-            b"code $$$$\n",
-            &[wide(a), wide(b), wide(c), wide(d)],
-        ),
-        BlockCode::None => text(out, b"code none\n"),
-    }
-}
-
-fn code_lines(out: &mut Output, table: &[u64], rows: usize) {
-    for row in 0..rows {
-        code_line(out, cell(table, row, 0));
-    }
-}
-
-fn pointer_line(out: &mut Output, found: Pointer) {
-    match found {
-        Pointer::Null => text(out, b"null\n"),
-        Pointer::Block(row) => line(out, b"found #\n", &[row as u64]),
-        Pointer::Missing => text(out, b"missing\n"),
-        Pointer::Refused(_) => text(out, b"refused 13\n"),
-    }
-}
-
-fn search(out: &mut Output, file: &[u8], address: u64) {
-    let mut table = [0u64; NUMBERS];
-    match blend(file, &mut table) {
-        BlendAnswer::Is(b) => {
-            pointer_line(out, get_ptr(&table, b.rows, address));
-            code_lines(out, &table, b.rows);
+fn code_lines(out: &mut Output, table: &[u64], rows: usize) -> io::Result<()> {
+    let (all, _) = table.as_chunks::<{ Row::NUMBERS }>();
+    for row in all.iter().take(rows) {
+        match code(row[Row::CODE]) {
+            Some(bytes) => writeln!(out, "code {:08x}", u32::from_be_bytes(bytes))?,
+            None => writeln!(out, "code none")?,
         }
-        BlendAnswer::Refused(f) => refused_line(out, f),
-        BlendAnswer::TableTooShort(rows) => too_short_line(out, rows),
+    }
+    Ok(())
+}
+
+fn pointer_line(out: &mut Output, found: Result<Pointer, Refusal>) -> io::Result<()> {
+    match found {
+        Ok(Pointer::Null) => writeln!(out, "null"),
+        Ok(Pointer::Block(row)) => writeln!(out, "found {row}"),
+        Ok(Pointer::Missing) => writeln!(out, "missing"),
+        Err(r) => writeln!(out, "refused {r}"),
     }
 }
 
-pub fn answer(out: &mut Output, input: &[u8]) {
-    match parse_u64(input, Endianness::Little) {
-        ValueU64::Is(address) => if 8 <= input.len() {
-            search(out, &input[8..], address);
-        },
-        ValueU64::Refused(_) => text(out, b"bad-input\n"),
+fn search(out: &mut Output, file: &[u8], address: u64) -> io::Result<()> {
+    let mut table = [0; NUMBERS];
+    match blend(file, &mut table) {
+        Ok(b) => {
+            pointer_line(out, get_ptr(&table, b.rows, address))?;
+            code_lines(out, &table, b.rows)
+        }
+        Err(e) => refused_line(out, e),
+    }
+}
+
+pub fn answer(out: &mut Output, input: &[u8]) -> io::Result<()> {
+    match input.split_first_chunk::<8>() {
+        Some((address, file)) => search(out, file, u64::from_le_bytes(*address)),
+        None => writeln!(out, "bad-input"),
     }
 }

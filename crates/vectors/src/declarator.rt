@@ -1,121 +1,113 @@
 // Declarators.
-use crate::file::refused_line;
-use crate::out::{Output, byte, line, text, words};
-use field::field::{Declarator, FieldInfo, FnPointerField, ParsedField, fn_pointer, parse_field};
+use crate::{Output, words};
+use field::field::{Declarator, FieldError, FieldInfo, fn_pointer, parse_field};
+use octets::Refusal;
+use std::io;
+use std::io::Write;
 
-// All numbers of a declarator: where the name starts and how long it is, the same of the rest, the indirection, and the length and the number of
-// dimensions of an array. Those that a kind does not have are 0.
-fn numbers(d: Declarator) -> [u64; 7] {
-    let kind = d.kind;
-    let name = d.name;
-    let rest = d.rest;
-    let a = name.at as u64;
-    let b = name.len as u64;
-    let c = rest.at as u64;
-    let e = rest.len as u64;
-    match kind {
-        FieldInfo::ValueArray { len, dimensions } => [a, b, c, e, 0, len, dimensions as u64],
-        FieldInfo::Pointer { indirection_count } => [a, b, c, e, indirection_count as u64, 0, 0],
+// In a few words. The dimensions come after them.
+fn short(out: &mut Output, d: Declarator) -> io::Result<()> {
+    let (at, n, rest) = (d.name.at, d.name.len, d.rest.at);
+    match d.kind {
+        FieldInfo::Value => write!(out, "value {at} {n} {rest}"),
+        FieldInfo::ValueArray { len, dimensions } => {
+            write!(out, "array {at} {n} {rest} {len} {dimensions}")
+        }
+        FieldInfo::Pointer {
+            indirection_count: stars,
+        } => write!(out, "pointer {at} {n} {rest} {stars}"),
         FieldInfo::PointerArray {
-            indirection_count,
+            indirection_count: stars,
             len,
             dimensions,
-        } => [a, b, c, e, indirection_count as u64, len, dimensions as u64],
-        _ => [a, b, c, e, 0, 0, 0],
-    }
-}
-
-fn short_form(out: &mut Output, kind: FieldInfo, all: &[u64]) {
-    match kind {
-        FieldInfo::Value => line(out, b"value # # #", all),
-        FieldInfo::ValueArray { .. } => line(out, b"array # # #^^ # #", all),
-        FieldInfo::Pointer { .. } => line(out, b"pointer # # #^ #", all),
-        FieldInfo::PointerArray { .. } => line(out, b"pointer-array # # #^ # # #", all),
-        FieldInfo::FnPointer => line(out, b"fn # # #", all),
-    }
-}
-
-fn long_form(out: &mut Output, kind: FieldInfo, all: &[u64]) {
-    match kind {
-        FieldInfo::Value => line(out, b"value name # # rest # #", all),
-        FieldInfo::ValueArray { .. } => line(
+        } => write!(
             out,
-            b"value array name # # rest # #^ length # dimensions #",
-            all,
+            "pointer-array {at} {n} {rest} {stars} {len} {dimensions}"
         ),
-        FieldInfo::Pointer { .. } => line(out, b"pointer name # # rest # # indirection #", all),
-        FieldInfo::PointerArray { .. } => {
-            line(
+        FieldInfo::FnPointer => write!(out, "fn {at} {n} {rest}"),
+    }
+}
+
+// What it is, and its places.
+fn long_words(out: &mut Output, word: &str, d: Declarator) -> io::Result<()> {
+    write!(
+        out,
+        "{word} name {} {} rest {} {}",
+        d.name.at, d.name.len, d.rest.at, d.rest.len
+    )
+}
+
+// In whole words.
+pub fn long(out: &mut Output, d: Declarator) -> io::Result<()> {
+    match d.kind {
+        FieldInfo::Value => long_words(out, "value", d),
+        FieldInfo::ValueArray { len, dimensions } => {
+            long_words(out, "value array", d)?;
+            write!(out, " length {len} dimensions {dimensions}")
+        }
+        FieldInfo::Pointer {
+            indirection_count: stars,
+        } => {
+            long_words(out, "pointer", d)?;
+            write!(out, " indirection {stars}")
+        }
+        FieldInfo::PointerArray {
+            indirection_count: stars,
+            len,
+            dimensions,
+        } => {
+            long_words(out, "pointer array", d)?;
+            write!(
                 out,
-                b"pointer array name # # rest # # indirection # length # dimensions #",
-                all,
+                " indirection {stars} length {len} dimensions {dimensions}"
             )
         }
-        FieldInfo::FnPointer => line(out, b"function pointer name # # rest # #", all),
+        FieldInfo::FnPointer => long_words(out, "function pointer", d),
     }
 }
 
-// The first numbers of the table of dimensions.
-fn dimensions(out: &mut Output, table: &[u64], count: u64) {
-    let n = count as usize;
-    if n <= table.len() {
-        words(out, &table[0..n]);
+pub fn refused(out: &mut Output, e: FieldError) -> io::Result<()> {
+    match e {
+        FieldError::Refusal(r) => write!(out, "refused {r}"),
+        FieldError::DimensionTableTooShort(groups) => write!(
+            out,
+            "refused {} {groups}",
+            Refusal::DIMENSION_TABLE_TOO_SHORT
+        ),
     }
 }
 
-// In the short form, the dimensions come after it.
-#[derive(Drop)]
-pub enum Form {
-    Short,
-    Long,
-}
-
-pub fn declarator(out: &mut Output, form: Form, table: &[u64], d: Declarator) {
-    let all = numbers(d);
-    let kind = d.kind;
-    match form {
-        Form::Short => {
-            short_form(out, kind, &all);
-            dimensions(out, table, all[6]);
+// How many dimensions a declarator has.
+fn dimensions(kind: FieldInfo) -> usize {
+    match kind {
+        FieldInfo::ValueArray { dimensions, .. } | FieldInfo::PointerArray { dimensions, .. } => {
+            dimensions
         }
-        Form::Long => long_form(out, kind, &all),
+        FieldInfo::Value | FieldInfo::Pointer { .. } | FieldInfo::FnPointer => 0,
     }
 }
 
-pub fn parsed(out: &mut Output, form: Form, table: &[u64], answer: ParsedField) {
-    match answer {
-        ParsedField::Is(d) => declarator(out, form, table, d),
-        ParsedField::Refused(n) => line(out, b"refused #", &[n]),
-        ParsedField::DimensionTableTooShort(groups) => line(out, b"refused 11 #", &[groups as u64]),
+pub fn answer(out: &mut Output, name: &[u8]) -> io::Result<()> {
+    // An array, lent: its length is part of the answers.
+    let mut table = [0; 64];
+    match parse_field(name, &mut table) {
+        Ok(d) => {
+            short(out, d)?;
+            words(out, &table, dimensions(d.kind))?;
+        }
+        Err(e) => refused(out, e)?,
     }
-}
-
-pub fn answer(out: &mut Output, name: &[u8]) {
-    let mut table = [0u64; 64];
-    let found = parse_field(name, &mut table);
-    parsed(out, Form::Short, &table, found);
-    byte(out, b'\n');
-}
-
-fn function_line(out: &mut Output, d: Declarator) {
-    let name = d.name;
-    let rest = d.rest;
-    line(
-        out,
-        b"fn # # # #\n",
-        &[
-            name.at as u64,
-            name.len as u64,
-            rest.at as u64,
-            rest.len as u64,
-        ],
-    );
+    writeln!(out)
 }
 
 // A name as a function pointer.
-pub fn function_answer(out: &mut Output, name: &[u8]) {
+pub fn function_answer(out: &mut Output, name: &[u8]) -> io::Result<()> {
     match fn_pointer(name) {
-        FnPointerField::Is(d) => function_line(out, d),
-        FnPointerField::Refused(f) => refused_line(out, f),
+        Ok(d) => writeln!(
+            out,
+            "fn {} {} {} {}",
+            d.name.at, d.name.len, d.rest.at, d.rest.len
+        ),
+        Err(f) => writeln!(out, "refused {f}"),
     }
 }

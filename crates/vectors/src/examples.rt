@@ -3,152 +3,140 @@
 // - `1`, `2`, `3`: read with a table of so many numbers, which hold 9 before.
 // - `w`, `W`: the width, where pointers have 32 or 64 bits; the type's size and a space stand before the name.
 // - `s`: read without a table. `f`: read as a function pointer.
-use crate::declarator::{Form, declarator, parsed};
-use crate::file::refused;
-use crate::out::{Output, byte, line, number, text, wide, words};
-use crate::read_full;
-use field::field::{
-    FieldWidth, FnPointerField, ParsedField, fn_pointer, parse_field, scan_field, width,
-};
+ghost use Rattle.std.specs.Prelude.{◌≤◌};
+
+use crate::declarator::{long, refused};
+use crate::{LONGEST, Output, words};
+use field::field::{Declarator, FieldError, fn_pointer, parse_field, scan_field, width};
 use octets::PointerSize;
-use octets::cursor::before;
 use std::env::Env;
 use std::fs::File;
-use std::io::Eprint;
+use std::io::{Eprint, Read, Write};
 use std::rt::Files;
-use std::str;
+use std::{io, str};
 
-fn quoted(out: &mut Output, label: &[u8], name: &[u8]) {
-    text(out, label);
-    byte(out, b'"');
-    text(out, name);
-    byte(out, b'"');
+fn quoted(out: &mut Output, label: &str, name: &[u8]) -> io::Result<()> {
+    write!(out, "{label}\"")?;
+    out.write_all(name)?;
+    write!(out, "\"")
+}
+
+fn parsed(out: &mut Output, answer: Result<Declarator, FieldError>) -> io::Result<()> {
+    match answer {
+        Ok(d) => long(out, d),
+        Err(e) => refused(out, e),
+    }
 }
 
 // With the first numbers of a table.
-fn table_words(out: &mut Output, name: &[u8], room: usize, table: &mut [u64]) {
-    if room <= table.len() {
-        let found = parse_field(name, &mut table[0..room]);
-        parsed(out, Form::Long, table, found);
-        text(out, b" |");
-        words(out, &table[0..room]);
-    }
+fn with_table(out: &mut Output, name: &[u8], room: usize) -> io::Result<()>
+    requires { room ≤ 3 }
+{
+    let mut table = [9; 3];
+    quoted(out, "", name)?;
+    write!(out, " {room}: ")?;
+    parsed(out, parse_field(name, &mut table[..room]))?;
+    write!(out, " |")?;
+    words(out, &table, room)
 }
 
-fn with_table(out: &mut Output, name: &[u8], room: usize) {
-    let mut table = [9u64; 3];
-    quoted(out, b"", name);
-    line(out, b" #: ", &[room as u64]);
-    table_words(out, name, room, &mut table);
+fn without_table(out: &mut Output, name: &[u8]) -> io::Result<()> {
+    quoted(out, "scan of ", name)?;
+    write!(out, ": ")?;
+    parsed(out, scan_field(name).map_err(FieldError::from))
 }
 
-fn without_table(out: &mut Output, name: &[u8]) {
-    quoted(out, b"scan of ", name);
-    text(out, b": ");
-    parsed(out, Form::Long, &[0], scan_field(name));
-}
-
-fn function(out: &mut Output, name: &[u8]) {
-    quoted(out, b"function pointer of ", name);
-    text(out, b": ");
+fn function(out: &mut Output, name: &[u8]) -> io::Result<()> {
+    quoted(out, "function pointer of ", name)?;
+    write!(out, ": ")?;
     match fn_pointer(name) {
-        FnPointerField::Is(d) => declarator(out, Form::Long, &[0], d),
-        FnPointerField::Refused(f) => refused(out, f),
+        Ok(d) => long(out, d),
+        Err(f) => write!(out, "refused {f}"),
     }
 }
 
-fn width_words(out: &mut Output, answer: FieldWidth) {
-    match answer {
-        FieldWidth::Is(n) => number(out, b'#', n),
-        FieldWidth::Refused(n) => line(out, b"refused #", &[n]),
+fn width_line(out: &mut Output, name: &[u8], size: u64, pointers: PointerSize) -> io::Result<()> {
+    quoted(out, "width of ", name)?;
+    write!(out, " of {size} with {}: ", pointers.bytes_num())?;
+    let Ok(d) = parse_field(name, &mut [0; 3]) else {
+        return write!(out, "none");
+    };
+    match width(d, size, pointers) {
+        Ok(n) => write!(out, "{n}"),
+        Err(r) => write!(out, "refused {r}"),
     }
-}
-
-fn sized(out: &mut Output, name: &[u8], size: u64, pointers: PointerSize) {
-    let mut table = [0u64; 3];
-    match parse_field(name, &mut table) {
-        ParsedField::Is(d) => width_words(out, width(d, size, pointers)),
-        _ => text(out, b"none"),
-    }
-}
-
-fn width_line(out: &mut Output, name: &[u8], size: u64, pointers: PointerSize) {
-    quoted(out, b"width of ", name);
-    line(out, b" of # with #: ", &[size, pointers.bytes_num() as u64]);
-    sized(out, name, size, pointers);
 }
 
 // A number of at most 64 bits.
 fn decimal(digits: &[u8]) -> u64 {
     let mut n: u64 = 0;
     for d in digits {
-        n = (n % 1844674407370955162 * 10).wrapping_add(wide(*d) % 16);
+        n = (n % 1844674407370955162 * 10).wrapping_add(u64::from(*d % 16));
     }
     n
 }
 
-fn with_size(out: &mut Output, s: &[u8], pointers: PointerSize) {
-    let n = before(s, b' ');
-    if n < s.len() {
-        let from = n + 1;
-        width_line(out, &s[from..], decimal(&s[0..n]), pointers);
+fn with_size(out: &mut Output, s: &[u8], pointers: PointerSize) -> io::Result<()> {
+    match s.iter().position(|b| *b == b' ') {
+        Some(n) => width_line(out, &s[n + 1..], decimal(&s[..n]), pointers),
+        None => Ok(()),
     }
 }
 
-fn example(out: &mut Output, asked: u8, s: &[u8]) {
+// The byte is matched itself: an enum of what is asked would be this list a second time.
+fn example(out: &mut Output, asked: u8, s: &[u8]) -> io::Result<()> {
     match asked {
-        b'1' => with_table(out, s, 1),
-        b'2' => with_table(out, s, 2),
-        b'3' => with_table(out, s, 3),
+        b'1'..=b'3' => with_table(out, s, usize::from(asked - b'0')),
         b's' => without_table(out, s),
         b'f' => function(out, s),
         b'w' => with_size(out, s, PointerSize::Bits32),
         _ => with_size(out, s, PointerSize::Bits64),
     }
-    byte(out, b'\n');
 }
 
-fn lines(out: &mut Output, all: &[u8]) {
-    let mut from = 0;
-    while from < all.len() {
-        let n = before(&all[from..], b'\n');
-        if all.len() - from < n {
-            return;
+fn lines(out: &mut Output, all: &[u8]) -> io::Result<()> {
+    for line in all.split(|b| *b == b'\n') {
+        if let [asked, _, name @ ..] = line {
+            example(out, *asked, name)?;
+            writeln!(out)?;
         }
-        let to = from + n;
-        if 2 <= n {
-            let start = from + 2;
-            example(out, all[from], &all[start..to]);
-        }
-        from = to + 1;
     }
+    Ok(())
 }
 
 // The lines of this file; where it cannot be opened, standard error says why.
-fn file_lines(out: &mut Output, rt: &(impl Files + Eprint), path: &str, buffer: &mut [u8]) {
+fn file_lines(
+    out: &mut Output,
+    rt: &(impl Files + Eprint + AllocGlobal),
+    path: &str,
+) -> io::Result<()> {
     match File::open(rt, path) {
-        Ok(mut file) => {
-            let len = read_full(&mut file, buffer);
-            drop(file);
-            lines(out, &buffer[..len]);
+        Ok(file) => {
+            let mut all = Vec::new(rt.alloc());
+            // Where a read fails, the lines are those that came before.
+            let _ = file.take(LONGEST as u64).read_to_end(&mut all);
+            lines(out, all.as_slice())
         }
         Err(e) => {
             let _ = eprintln!(rt; "{path}: {e}");
+            Ok(())
         }
     }
 }
 
 // The lines of the file that the program's argument names, if it has one.
-pub fn answer(out: &mut Output, rt: &(impl Env + Files + Eprint), buffer: &mut [u8]) {
-    let mut path = [0u8; 64];
+pub fn answer(out: &mut Output, rt: &(impl Env + Files + Eprint + AllocGlobal)) -> io::Result<()> {
+    // A name that is longer is passed over, as none is; so no String.
+    let mut path = [0; 64];
     let n = rt.arg(1, &mut path).unwrap_or(0);
     if n == 0 {
-        return;
+        return Ok(());
     }
     match str::from_utf8(&path[..n]) {
-        Ok(path) => file_lines(out, rt, path, buffer),
+        Ok(path) => file_lines(out, rt, path),
         Err(e) => {
             let _ = eprintln!(rt; "the file's name: {e}");
+            Ok(())
         }
     }
 }

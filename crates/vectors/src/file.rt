@@ -1,267 +1,144 @@
 // Whole files: the header, the rows with what their views show, and a walk that has to find the same.
-use crate::out::{LEGACY, NEW, Output, line, text, wide};
-use crate::values::order_word;
-use blend::blend::{BlendAnswer, RawBlend, blend};
+use crate::Output;
+use blend::blend::{BlendError, RawBlend, blend};
 use block::Row;
-use header::blend::{HeaderAnswer, header};
-use header::{FileFormat, Header};
-use octets::{Fault, PointerSize};
-use runtime::runtime::{ViewAnswer, view, view_part};
+use header::blend::header;
+use octets::{Fault, Refusal};
+use runtime::runtime::{view, view_part};
+use std::io;
+use std::io::Write;
 use walker::{Place, Step};
 
-// 128 rows.
+// The table that is lent has 128 rows; a file of more is answered by refusal 7.
 pub const NUMBERS: usize = 128 * Row::NUMBERS;
-
-// One of a row's numbers; the rows that are asked for are there.
-pub fn cell(table: &[u64], row: usize, i: usize) -> u64 {
-    if i < Row::NUMBERS {
-        if row < table.len() / Row::NUMBERS {
-            return table[row * Row::NUMBERS + i];
-        }
-    }
-    0
-}
-
-// Times 2^40 + 435, the factor of 64-bit FNV-1a, with what 64 bits hold of the product.
-fn times_factor(h: u64) -> u64 {
-    h.wrapping_mul(0x100_0000_01b3)
-}
 
 // 64-bit FNV-1a.
 fn hash(bytes: &[u8]) -> u64 {
     let mut h: u64 = 0xcbf2_9ce4_8422_2325;
     for b in bytes {
-        h = times_factor(h ^ wide(*b));
+        h = (h ^ u64::from(*b)).wrapping_mul(0x100_0000_01b3);
     }
     h
 }
 
-fn format_word(format: FileFormat) -> u64 {
-    match format {
-        FileFormat::Legacy => LEGACY,
-        FileFormat::New => NEW,
+// Each row, with the hash of what its view shows.
+fn row_lines(out: &mut Output, file: &[u8], table: &[u64], rows: usize) -> io::Result<()> {
+    let (all, _) = table.as_chunks::<{ Row::NUMBERS }>();
+    for (row, numbers) in all.iter().take(rows).enumerate() {
+        let [code, address, index, count, at, payload, len] = numbers;
+        write!(
+            out,
+            "row {code:08x} {address} {index} {count} {at} {payload} {len} "
+        )?;
+        match view(file, table, row) {
+            Ok(()) => writeln!(out, "{:016x}", hash(view_part(file, table, row)))?,
+            Err(r) => writeln!(out, "view {r}")?,
+        }
     }
+    Ok(())
 }
 
-fn bits(size: PointerSize) -> u64 {
-    match size {
-        PointerSize::Bits32 => 32,
-        PointerSize::Bits64 => 64,
-    }
-}
-
-fn header_words(out: &mut Output, h: Header) {
-    let format = h.format;
-    let size = h.pointer_size;
-    let order = h.endianness;
-    let version = h.version;
-    let major = version.major as u64;
-    let minor = version.minor as u64;
-    line(
-        out,
-        b" ~ # ~ # #",
-        &[
-            format_word(format),
-            bits(size),
-            order_word(order),
-            major,
-            minor,
-        ],
-    );
-}
-
-fn view_words(out: &mut Output, file: &[u8], table: &[u64], row: usize) {
-    match view(file, table, row) {
-        ViewAnswer::There => line(out, b" %\n", &[hash(view_part(file, table, row))]),
-        ViewAnswer::Refused(_) => text(out, b" view 13\n"),
-    }
-}
-
-fn row_line(out: &mut Output, file: &[u8], table: &[u64], row: usize) {
-    if row < table.len() / Row::NUMBERS {
-        let from = row * Row::NUMBERS;
-        let to = from + Row::NUMBERS;
-        line(out, b"row @ # # # # # #", &table[from..to]);
-    }
-    view_words(out, file, table, row);
-}
-
-fn row_lines(out: &mut Output, file: &[u8], table: &[u64], rows: usize) {
-    for row in 0..rows {
-        row_line(out, file, table, row);
-    }
-}
-
-fn read_lines(out: &mut Output, file: &[u8], table: &[u64], b: RawBlend) {
-    let h = b.header;
+fn read_lines(out: &mut Output, file: &[u8], table: &[u64], b: RawBlend) -> io::Result<()> {
+    write!(out, "file {} {} {} ", b.header, b.rows, b.end)?;
     let n = b.dna;
-    let rows = b.rows as u64;
-    let end = b.end as u64;
-    text(out, b"file");
-    header_words(out, h);
-    line(
-        out,
-        b" # # # # # #\n",
-        &[rows, end, n.names, n.types, n.structs, n.fields],
-    );
-    row_lines(out, file, table, b.rows);
+    writeln!(out, "{} {} {} {}", n.names, n.types, n.structs, n.fields)?;
+    row_lines(out, file, table, b.rows)
 }
 
-fn is_row(table: &[u64], row: usize, r: Row) -> bool {
-    if cell(table, row, Row::CODE) != r.code {
-        return false;
+// The row that the table has as these numbers. As scene has it, which knows none of this program: seven names are no plainer as a conversion that a library promises.
+fn row_of(numbers: &[u64; Row::NUMBERS]) -> Row {
+    let [code, address, index, count, at, payload, len] = *numbers;
+    Row {
+        code,
+        address,
+        index,
+        count,
+        at,
+        payload,
+        len,
     }
-    if cell(table, row, Row::ADDRESS) != r.address {
-        return false;
-    }
-    if cell(table, row, Row::INDEX) != r.index {
-        return false;
-    }
-    if cell(table, row, Row::COUNT) != r.count {
-        return false;
-    }
-    if cell(table, row, Row::AT) != r.at {
-        return false;
-    }
-    if cell(table, row, Row::PAYLOAD) != r.payload {
-        return false;
-    }
-    cell(table, row, Row::LEN) == r.len
 }
 
-fn is_end(s: Step, end: usize) -> bool {
+// How a step ends a walk, at the offset after the end mark or by a refusal, and the place that it hands back.
+fn ending(s: Step) -> Option<(Result<usize, Fault>, Place)> {
     match s {
-        Step::End(n, _) => n == end,
-        _ => false,
+        Step::Block(..) => None,
+        Step::End(end, back) => Some((Ok(end), back)),
+        Step::Refused(f, back) => Some((Err(f), back)),
     }
 }
 
-fn is_same(a: Fault, b: Fault) -> bool {
-    if a.refusal() != b.refusal() {
+// Whether a step ends a walk so, and one from the place that it hands back does again.
+fn ends_so(s: Step, file: &[u8], so: Result<usize, Fault>) -> bool {
+    let Some((first, back)) = ending(s) else {
         return false;
-    }
-    a.place() == b.place()
-}
-
-fn is_refusal(s: Step, fault: Fault) -> bool {
-    match s {
-        Step::Refused(f, _) => is_same(f, fault),
-        _ => false,
-    }
-}
-
-// The place that a step hands back.
-fn after(s: Step) -> Place {
-    match s {
-        Step::Block(_, next) => next,
-        Step::End(_, next) => next,
-        Step::Refused(_, next) => next,
-    }
-}
-
-// Whether the walk ends here, and ends again from the place that is handed back.
-fn ends(place: Place, file: &[u8], end: usize) -> bool {
-    let s = place.step(file);
-    if is_end(s, end) {
-        return is_end(after(s).step(file), end);
-    }
-    false
-}
-
-// Whether the walk is refused here, and again from the place that is handed back.
-fn is_refused(place: Place, file: &[u8], fault: Fault) -> bool {
-    let s = place.step(file);
-    if is_refusal(s, fault) {
-        return is_refusal(after(s).step(file), fault);
-    }
-    false
+    };
+    first == so && ending(back.step(file)).is_some_and(|(again, _)| again == so)
 }
 
 // Whether a walk gives the table's first rows, and then the end.
-fn walk_ends(file: &[u8], table: &[u64], rows: usize, end: usize) -> bool {
+fn walk_ends(file: &[u8], table: &[u64], b: RawBlend) -> bool {
     let mut place = Place::start();
-    for row in 0..rows {
+    let (all, _) = table.as_chunks::<{ Row::NUMBERS }>();
+    for numbers in all.iter().take(b.rows) {
         match place.step(file) {
-            Step::Block(r, next) => {
-                if !is_row(table, row, r) {
-                    return false;
-                }
-                place = next;
-            }
-            _ => {
-                return false;
-            }
+            Step::Block(r, next) if r == row_of(numbers) => place = next,
+            _ => return false,
         }
     }
-    ends(place, file, end)
+    ends_so(place.step(file), file, Ok(b.end))
 }
 
 // Whether a walk comes to this refusal, at this place. A block has at least 20 bytes.
 fn walk_is_refused(file: &[u8], fault: Fault) -> bool {
     let mut place = Place::start();
-    let mut blocks = 0;
-    while blocks <= file.len() / 20 {
+    for _ in 0..=file.len() / 20 {
         match place.step(file) {
-            Step::Block(_, next) => {
-                place = next;
-                blocks += 1;
-            }
-            _ => {
-                return is_refused(place, file, fault);
-            }
+            Step::Block(_, next) => place = next,
+            s => return ends_so(s, file, Err(fault)),
         }
     }
     false
 }
 
-fn walk_line(out: &mut Output, as_read: bool) {
-    if !as_read {
-        text(out, b"walk differs\n");
+fn walk_line(out: &mut Output, as_read: bool) -> io::Result<()> {
+    if as_read {
+        Ok(())
+    } else {
+        writeln!(out, "walk differs")
     }
 }
 
-// A refusal's number and, of 16 and 17, the offset that it carries.
-pub fn refused(out: &mut Output, f: Fault) {
-    match f {
-        Fault::Refusal(n) => line(out, b"refused #", &[n]),
-        _ => line(out, b"refused # #", &[f.refusal(), f.place() as u64]),
+pub fn refused_line(out: &mut Output, e: BlendError) -> io::Result<()> {
+    match e {
+        BlendError::Fault(f) => writeln!(out, "refused {f}"),
+        BlendError::TableTooShort(rows) => {
+            writeln!(out, "refused {} {rows}", Refusal::BLOCK_TABLE_TOO_SHORT)
+        }
     }
 }
 
-pub fn refused_line(out: &mut Output, f: Fault) {
-    refused(out, f);
-    text(out, b"\n");
-}
-
-pub fn too_short_line(out: &mut Output, rows: usize) {
-    line(out, b"refused 7 #\n", &[rows as u64]);
-}
-
-pub fn answer(out: &mut Output, file: &[u8]) {
-    let mut table = [0u64; NUMBERS];
+pub fn answer(out: &mut Output, file: &[u8]) -> io::Result<()> {
+    let mut table = [0; NUMBERS];
     match blend(file, &mut table) {
-        BlendAnswer::Is(b) => {
-            read_lines(out, file, &table, b);
-            walk_line(out, walk_ends(file, &table, b.rows, b.end));
+        Ok(b) => {
+            read_lines(out, file, &table, b)?;
+            walk_line(out, walk_ends(file, &table, b))
         }
-        BlendAnswer::Refused(f) => {
-            refused_line(out, f);
-            walk_line(out, walk_is_refused(file, f));
+        Err(e) => {
+            refused_line(out, e)?;
+            match e {
+                BlendError::Fault(f) => walk_line(out, walk_is_refused(file, f)),
+                BlendError::TableTooShort(_) => Ok(()),
+            }
         }
-        BlendAnswer::TableTooShort(rows) => too_short_line(out, rows),
     }
-}
-
-fn header_line(out: &mut Output, h: Header, length: usize) {
-    text(out, b"header");
-    header_words(out, h);
-    line(out, b" #\n", &[length as u64]);
 }
 
 // A header by itself.
-pub fn header_answer(out: &mut Output, bytes: &[u8]) {
+pub fn header_answer(out: &mut Output, bytes: &[u8]) -> io::Result<()> {
     match header(bytes) {
-        HeaderAnswer::Is(h, length) => header_line(out, h, length),
-        HeaderAnswer::Refused(f) => refused_line(out, f),
+        Ok((h, length)) => writeln!(out, "header {h} {length}"),
+        Err(f) => writeln!(out, "refused {f}"),
     }
 }

@@ -25,23 +25,35 @@
 mod address;
 mod catalogue;
 mod declarator;
-mod digits;
 mod examples;
 mod file;
-mod out;
 mod values;
 
-ghost use Rattle.std.specs.Prelude.{◌≤◌, length};
-
 use octets::Endianness;
-use out::{Output, is_open, text};
-use primitive::primitive::{ValueU32, parse_u32};
-use std::io::Read;
+use std::env::Env;
+use std::io;
+use std::io::{BufReader, BufWriter, Read, Stdout, Write};
+use std::rt::Files;
+
+// Standard output, by way of a buffer.
+type Output = BufWriter<Stdout>;
+
+// How much of the input, and of the output, is held.
+const HELD: usize = 65536;
 
 // How long an input may be.
 const LONGEST: usize = 131072;
 
-fn answer(out: &mut Output, kind: u8, bytes: &[u8]) {
+// The first so many numbers, each after a space.
+fn words(out: &mut Output, numbers: &[u64], count: usize) -> io::Result<()> {
+    for n in numbers.iter().take(count) {
+        write!(out, " {n}")?;
+    }
+    Ok(())
+}
+
+// The byte is matched itself: an enum of the kinds would be this list a second time.
+fn answer(out: &mut Output, kind: u8, bytes: &[u8]) -> io::Result<()> {
     match kind {
         b'F' => file::answer(out, bytes),
         b'H' => file::header_answer(out, bytes),
@@ -52,140 +64,75 @@ fn answer(out: &mut Output, kind: u8, bytes: &[u8]) {
         b'P' => values::answer(out, bytes),
         b'N' => values::names_answer(out),
         b'A' => address::answer(out, bytes),
-        _ => text(out, b"bad-kind\n"),
+        _ => writeln!(out, "bad-kind"),
     }
 }
 
-// A record whose input stands at the start of the buffer, one that was read past, one that ends early, or none.
-#[derive(Drop)]
-enum Record {
-    Is(u8, usize),
+// Why a record is not answered: it is longer than the buffer, or the batch ends inside it.
+#[derive(Clone, Copy)]
+enum Unread {
     TooLong,
     Cut,
-    End,
-}
-
-// The length that a record's head has after the kind.
-fn length(head: &[u8]) -> usize {
-    if head.len() < 1 {
-        return 0;
-    }
-    match parse_u32(&head[1..], Endianness::Little) {
-        ValueU32::Is(n) => n as usize,
-        ValueU32::Refused(_) => 0,
-    }
-}
-
-fn least(a: usize, b: usize) -> usize
-    ensures { (result ≤ a) × (result ≤ b) }
-{
-    if a < b { a } else { b }
-}
-
-// Reads until the buffer is full, the input ends or a read fails, and answers how many bytes came.
-fn read_full(input: &mut impl Read, buffer: &mut [u8]) -> usize
-    ensures { result ≤ length buffer.new }
-{
-    let mut done = 0;
-    while done < buffer.len() {
-        match input.read(&mut buffer[done..]) {
-            Ok(0) | Err(_) => break,
-            Ok(n) => done += n,
-        }
-    }
-    done
-}
-
-// Reads so many bytes to the start of the buffer, as far as it goes, and answers how many came.
-fn read_some(input: &mut impl Read, buffer: &mut [u8], n: usize) -> usize {
-    let most = least(n, buffer.len());
-    read_full(input, &mut buffer[0..most])
 }
 
 // Reads past so many bytes. Whether they were there.
-fn skip(input: &mut impl Read, buffer: &mut [u8], n: usize) -> bool {
-    let mut left = n;
-    while 0 < left {
-        let got = read_some(input, buffer, left);
-        if got == 0 {
-            return false;
-        }
-        if left <= got {
-            return true;
-        }
-        left -= got;
-    }
-    true
-}
-
-fn skipped(input: &mut impl Read, buffer: &mut [u8], len: usize) -> Record {
-    if skip(input, buffer, len) {
-        Record::TooLong
-    } else {
-        Record::Cut
+fn skip(input: &mut impl Read, len: u64) -> bool {
+    match io::copy(&mut input.by_ref().take(len), &mut io::sink()) {
+        Ok(n) => n == len,
+        Err(_) => false,
     }
 }
 
-fn read_record(input: &mut impl Read, buffer: &mut [u8]) -> Record {
-    let mut head = [0u8; 5];
-    let n = read_full(input, &mut head);
-    if n == 0 {
-        return Record::End;
+// The next record: its kind and its input, which is read to the start of the buffer; nothing where the batch ends.
+fn read_record<'a>(
+    input: &mut impl Read,
+    buffer: &'a mut [u8],
+) -> Result<Option<(u8, &'a [u8])>, Unread> {
+    let mut kind = [0; 1];
+    if input.read_exact(&mut kind).is_err() {
+        return Ok(None);
     }
-    if n < 5 {
-        return Record::Cut;
-    }
-    let kind = head[0];
-    let len = length(&head);
-    if buffer.len() < len {
-        return skipped(input, buffer, len);
-    }
-    if read_some(input, buffer, len) < len {
-        return Record::Cut;
-    }
-    Record::Is(kind, len)
-}
-
-// Ends an answer. Whether the output takes more.
-fn ended(out: &mut Output) -> bool {
-    text(out, b".\n");
-    is_open(out)
-}
-
-// Answers the next record. Whether there may be another.
-fn next(out: &mut Output, input: &mut impl Read, buffer: &mut [u8]) -> bool {
-    match read_record(input, buffer) {
-        Record::End => false,
-        Record::Cut => {
-            text(out, b"cut\n");
-            false
-        }
-        Record::TooLong => {
-            text(out, b"too long\n");
-            ended(out)
-        }
-        Record::Is(kind, len) => if len <= buffer.len() {
-            answer(out, kind, &buffer[0..len]);
-            ended(out)
-        } else {
-            false
-        },
-    }
+    let mut len = [0; 4];
+    input.read_exact(&mut len).map_err(|_| Unread::Cut)?;
+    let len = u32::from_le_bytes(len);
+    let Some(bytes) = buffer.get_mut(..len as usize) else {
+        let there = skip(input, u64::from(len));
+        return Err(if there { Unread::TooLong } else { Unread::Cut });
+    };
+    input.read_exact(bytes).map_err(|_| Unread::Cut)?;
+    Ok(Some((kind[0], bytes)))
 }
 
 // All records; the number of turns only bounds the loop.
-fn batch(out: &mut Output, input: &mut impl Read, buffer: &mut [u8]) {
-    for _ in 0..0xffff_ffff_ffffu64 {
-        if !next(out, input, buffer) {
-            return;
+fn batch(out: &mut Output, input: &mut impl Read, buffer: &mut [u8]) -> io::Result<()> {
+    for _ in 0..u64::MAX {
+        match read_record(input, buffer) {
+            Ok(Some((kind, bytes))) => answer(out, kind, bytes)?,
+            Ok(None) => return Ok(()),
+            Err(Unread::TooLong) => writeln!(out, "too long")?,
+            Err(Unread::Cut) => return writeln!(out, "cut"),
         }
+        writeln!(out, ".")?;
     }
+    Ok(())
 }
 
-fn main(rt: HostRuntime) {
-    let mut out = Output::new(rt.stdout());
-    let mut buffer = [0u8; LONGEST];
-    examples::answer(&mut out, &rt, &mut buffer);
-    batch(&mut out, &mut rt.stdin(), &mut buffer);
-    out::flush(&mut out);
+fn answers(
+    out: &mut Output,
+    rt: &(impl Env + Files + Eprint + AllocGlobal),
+    input: &mut impl Read,
+    buffer: &mut [u8],
+) -> io::Result<()> {
+    examples::answer(out, rt)?;
+    batch(out, input, buffer)?;
+    out.flush()
+}
+
+fn main(rt: HostRuntime) -> io::Result<()> {
+    let mut out = BufWriter::with_capacity(rt.alloc(), HELD, rt.stdout())?;
+    let mut input = BufReader::with_capacity(rt.alloc(), HELD, rt.stdin())?;
+    let mut buffer = [0; LONGEST];
+    // Where the output is closed, the rest is not answered, and nothing is said of it.
+    let _ = answers(&mut out, &rt, &mut input, &mut buffer);
+    Ok(())
 }

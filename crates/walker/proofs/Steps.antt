@@ -1,4 +1,5 @@
 -- Laws of one step of the walker, from what the code asked.
+use Rattle.std.specs.Prelude.{Result}
 use Prim.Native.Nat.{ℕ, ◌≤◌, ◌<◌}
 use mathlib.Core.List.{List}
 use mathlib.Core.Path.{◌≡◌, sym, ◌∙◌, ap}
@@ -31,7 +32,7 @@ module _ (header : Reader HeaderBytes) (s : List ℕ) (p : Place) where
     step-refused x g = on-header ∙ ap (on_header s p) g
 
     module _ (h : Header) (first : ℕ) (g : valued (run header s 0) ≡ read h first) where
-      pub step_over_lem : (b : Place) → b ≡ stands_for first p → (d : Boundary) → boundary_of h s b.at ≡ d → step_by header s p ≡ step_over p b d
+      pub step_over_lem : (b : Place) → b ≡ stands_for first p → (d : Result Boundary Fault) → boundary_of h s b.at ≡ d → step_by header s p ≡ step_over p b d
       step_over_lem b e d w =
           on-header ∙ ap (on_header s p) g ∙ ap (λ (q : Place). step_over p q (boundary_of h s q.at)) (sym e) ∙ ap (step_over p b) w
 

@@ -1,5 +1,6 @@
 -- A walk from the start gives the reader's rows, one after another, and then its end or its refusal: `walks`. There is no other walk: `one-walk`.
 -- Both hold of any file and of any tree that reads its header.
+use Rattle.std.specs.Prelude.{Result, Ok, Err, Option, Some, None}
 use Prim.Native.Nat.{ℕ, zero, suc, ◌+◌, ◌≤◌, ◌<◌}
 use mathlib.Core.List.{List, [], ◌∷◌}
 use mathlib.Core.Path.{◌≡◌, refl, sym, ◌∙◌, ap, subst}
@@ -16,8 +17,8 @@ use Rattle.octets.proofs.Tests.{held, failed}
 use Rattle.dna.specs.declared.dna.DnaCounts.{DnaCounts}
 use Rattle.header.specs.declared.Header.{Header}
 use Rattle.block.specs.declared.Row.{Row}
-use Rattle.blend.specs.declared.blend.Last.{Last}
 use Rattle.blend.specs.declared.blend.Boundary.{Boundary}
+use Rattle.octets.specs.declared.Fault.{Fault}
 use Rattle.walker.specs.declared.Place.{Place}
 use Rattle.walker.specs.declared.Step.{Step}
 use Rattle.header.specs.Header.{HeaderBytes, valued}
@@ -43,9 +44,9 @@ abbrev paper_stop : Stop → Paper
 paper_stop (ended next) = accepts 1 (next ∷ [])
 paper_stop (refused x) = paper_fault x
 
-mark-told : (l : Last) (next : ℕ) → end_mark (last_is_dna l) next ≡ paper_stop (stop_of (ended_as l next))
-mark-told Last.Other next = refl
-mark-told (Last.Dna n) next = refl
+mark-told : (l : Option DnaCounts) (next : ℕ) → end_mark (last_is_dna l) next ≡ paper_stop (stop_of (ended_as l next))
+mark-told None next = refl
+mark-told (Some n) next = refl
 
 module _ (header : Reader HeaderBytes) (s : List ℕ) where
   -- a step that stays is one that stops
@@ -55,36 +56,36 @@ module _ (header : Reader HeaderBytes) (s : List ℕ) where
 
   module _ (h : Header) (first : ℕ) (g : valued (run header s 0) ≡ read h first) where
     -- a place that stands for a boundary, with what the chain knows there
-    stands_at : Place → ℕ → Last → Type 0
+    stands_at : Place → ℕ → Option DnaCounts → Type 0
     stands_at p at last = (p.at ≤ length s) × (stands_for first p ≡ record { at = at; dna = last_is_dna last }) × (first ≤ at)
 
-    step-at : (p : Place) (at : ℕ) (last : Last) → stands_at p at last → (b : Boundary) → boundary_of h s at ≡ b → step_by header s p ≡ step_over p (record { at = at; dna = last_is_dna last }) b
+    step-at : (p : Place) (at : ℕ) (last : Option DnaCounts) → stands_at p at last → (b : Result Boundary Fault) → boundary_of h s at ≡ b → step_by header s p ≡ step_over p (record { at = at; dna = last_is_dna last }) b
     unfolding stands_at
     step-at p at last w b e = step_over_lem header s p w.0 h first g (record { at = at; dna = last_is_dna last }) (sym w.1) b e
 
-    moved_on : (at : ℕ) (r : Row) (l : Last) (next : ℕ) → boundary_of h s at ≡ Boundary.Block r l next → first ≤ at → stands_at (record { at = next; dna = last_is_dna l }) next l
+    moved_on : (at : ℕ) (r : Row) (l : Option DnaCounts) (next : ℕ) → boundary_of h s at ≡ Ok (Boundary.Block r l next) → first ≤ at → stands_at (record { at = next; dna = last_is_dna l }) next l
     unfolding stands_at
     moved_on at r l next e f =
         let w = block_moves h s at r l next e in
         let k : first < next = omega (arith, w.0) in
         (w.1, held _ _ (lt-ltb _ _ k), omega (arith, w.0))
 
-    walk-chain : (fuel at : ℕ) (last : Last) → length s < at + fuel → (p : Place) → stands_at p at last → at ≤ length s
+    walk-chain : (fuel at : ℕ) (last : Option DnaCounts) → length s < at + fuel → (p : Place) → stands_at p at last → at ≤ length s
         → Walk (Stepped header s) p (chain fuel h s at last).rows (stop_of (chain fuel h s at last).last)
     unfolding chain stands_at
     walk-chain zero at last e p w i = absurd (omega arith)
     walk-chain (suc fuel) at last e p w i = go (boundary_of h s at) refl (λ next l. walk-chain fuel next l)
       where
-        go : (b : Boundary) → boundary_of h s at ≡ b
-            → ((next : ℕ) (l : Last) → length s < next + fuel → (q : Place) → stands_at q next l → next ≤ length s
+        go : (b : Result Boundary Fault) → boundary_of h s at ≡ b
+            → ((next : ℕ) (l : Option DnaCounts) → length s < next + fuel → (q : Place) → stands_at q next l → next ≤ length s
             → Walk (Stepped header s) q (chain fuel h s next l).rows (stop_of (chain fuel h s next l).last))
             → Walk (Stepped header s) p (link b last at (chain fuel h s)).rows (stop_of (link b last at (chain fuel h s)).last)
-        go Boundary.EndMark t f = stops p (stop_of (ended_as last (at + 4))) (step-at p at last w Boundary.EndMark t ∙ ap (stays p) (mark-told last (at + 4)))
-        go (Boundary.Stopped x) t f = stops p (refused x) (step-at p at last w (Boundary.Stopped x) t)
-        go (Boundary.Block r l next) t f =
+        go (Ok Boundary.EndMark) t f = stops p (stop_of (ended_as last (at + 4))) (step-at p at last w (Ok Boundary.EndMark) t ∙ ap (stays p) (mark-told last (at + 4)))
+        go (Err x) t f = stops p (refused x) (step-at p at last w (Err x) t)
+        go (Ok (Boundary.Block r l next)) t f =
             let v = block_moves h s at r l next t in
             let q : Place = record { at = next; dna = last_is_dna l } in
-            let k = step-at p at last w (Boundary.Block r l next) t in
+            let k = step-at p at last w (Ok (Boundary.Block r l next)) t in
             (q, (sym (ap (λ (x : Walked). x.answer) k), sym (ap (λ (x : Walked). x.place) k)), f next l (omega (arith, v.0)) q (moved_on at r l next t w.2) v.1)
 
   from_start : (o : Outcome Header) → valued (run header s 0) ≡ o → Walk (Stepped header s) start (rows_of (on_header s o)) (stop_by (on_header s o))
@@ -93,7 +94,7 @@ module _ (header : Reader HeaderBytes) (s : List ℕ) where
       let b = valued_read s (run header s 0) h first g in
       let i : first ≤ length s = omega (arith, ends-within header s 0 b.0 first b.1) in
       let e : length s < first + suc (length s) = omega arith in
-      walk-chain h first g (suc (length s)) first Last.Other e start (omega arith, failed _ _ (le-ltb first 0 (omega arith)), omega arith) i
+      walk-chain h first g (suc (length s)) first None e start (omega arith, failed _ _ (le-ltb first 0 (omega arith)), omega arith) i
   from_start (fault x) g = stops start (refused x) (step-refused header s start (omega arith) x g)
 
   pub walks : Walk (Stepped header s) start (rows_of (file_by header s)) (stop_by (file_by header s))

@@ -1,6 +1,6 @@
 -- Walker: one step from any place in any file, and a walk of such steps. proofs/Walks.antt: a walk from the start gives the reader's rows, one after another,
 -- and then the reader's end or refusal (6 included, 7 never).
-use Rattle.std.specs.Prelude.{ℕ, ◌+◌, Bool, true, false, List, [], ◌∷◌, ◌≡◌, ltb, length}
+use Rattle.std.specs.Prelude.{ℕ, ◌+◌, Bool, true, false, List, [], ◌∷◌, ◌≡◌, ltb, length, Result, Ok, Err, Option, Some, None}
 use Rattle.octets.specs.declared.Fault.{Fault}
 use Rattle.octets.specs.Paper.{Paper}
 use Rattle.octets.specs.Paper.Paper.{accepts, refuses}
@@ -9,7 +9,7 @@ use Rattle.octets.specs.Reader.Outcome.{read, fault}
 use Rattle.octets.specs.Refusals.{no_dna_block_found, not_there, paper_fault}
 use Rattle.header.specs.declared.Header.{Header}
 use Rattle.block.specs.declared.Row.{Row}
-use Rattle.blend.specs.declared.blend.Last.{Last}
+use Rattle.dna.specs.declared.dna.DnaCounts.{DnaCounts}
 use Rattle.blend.specs.declared.blend.Boundary.{Boundary}
 use Rattle.walker.specs.declared.Place.{Place}
 use Rattle.walker.specs.declared.Step.{Step}
@@ -26,9 +26,9 @@ pub record Walked : Type 0 where
 abbrev pub stays : Place → Paper → Walked
 stays p a = record { answer = a; place = p }
 
-abbrev pub last_is_dna : Last → Bool
-last_is_dna Last.Other = false
-last_is_dna (Last.Dna n) = true
+abbrev pub last_is_dna : Option DnaCounts → Bool
+last_is_dna None = false
+last_is_dna (Some n) = true
 
 -- the end: the offset after the end mark, or 6 where the last block was no DNA1
 abbrev pub end_mark : Bool → ℕ → Paper
@@ -36,10 +36,10 @@ end_mark true next = accepts 1 (next ∷ [])
 end_mark false next = refuses no_dna_block_found []
 
 -- what is at a boundary; `p` is the place that was asked, `b` the boundary that it stands for
-abbrev pub step_over : Place → Place → Boundary → Walked
-step_over p b Boundary.EndMark = stays p (end_mark b.dna (b.at + 4))
-step_over p b (Boundary.Block r l next) = record { answer = accepts 0 (row_numbers r); place = record { at = next; dna = last_is_dna l } }
-step_over p b (Boundary.Stopped f) = stays p (paper_fault f)
+abbrev pub step_over : Place → Place → Result Boundary Fault → Walked
+step_over p b (Ok Boundary.EndMark) = stays p (end_mark b.dna (b.at + 4))
+step_over p b (Ok (Boundary.Block r l next)) = record { answer = accepts 0 (row_numbers r); place = record { at = next; dna = last_is_dna l } }
+step_over p b (Err f) = stays p (paper_fault f)
 
 -- A place that is not past the header stands for the first boundary, where no block was read.
 abbrev pub stands_for : ℕ → Place → Place

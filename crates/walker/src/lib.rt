@@ -5,35 +5,27 @@ ghost use Rattle.std.specs.Prelude.{◌≡◌};
 ghost use Rattle.walker.specs.Walker as rules;
 ghost use Rattle.walker.specs.Calls as calls;
 
-use blend::blend::{Boundary, Last, boundary_at};
+use blend::blend::{Boundary, boundary_at};
 use block::Row;
-use header::blend::{HeaderAnswer, header, refusal_of};
-use octets::Fault;
+use header::blend::header;
+use octets::{Fault, Refusal};
 
 /// A boundary, and whether the block before it is a DNA1.
-#[derive(Clone, Copy)]
+#[derive(Clone, Copy, Debug, PartialEq, Eq)]
 pub struct Place {
     pub at: usize,
     pub dna: bool,
 }
 
-/// What a step finds, and the place that it hands back: the next one after a block, otherwise the same.
-#[derive(Clone, Copy)]
+/// What a step finds, and the place that it hands back: the next one after a block, otherwise the same. No Result: each of the three hands back a place, the refusal
+/// too, which a `?` would lose.
+#[derive(Clone, Copy, Debug, PartialEq, Eq)]
 pub enum Step {
     Block(Row, Place),
     // The offset after the end mark.
     End(usize, Place),
     // Why it is refused, and where.
     Refused(Fault, Place),
-}
-
-fn last_is_dna(last: Last) -> bool
-    ensures { result ≡ rules.last_is_dna last }
-{
-    match last {
-        Last::Other => false,
-        Last::Dna(_) => true,
-    }
 }
 
 impl Place {
@@ -63,27 +55,27 @@ impl Place {
         ensures { calls.«Place::step» self file.now result }
     {
         if file.len() < self.at {
-            return Step::Refused(Fault::Refusal(Fault::NOT_THERE), self);
+            return Step::Refused(Fault::Refusal(Refusal::NotThere), self);
         }
         let answer = header(file);
-        let HeaderAnswer::Is(h, first) = answer else {
-            return Step::Refused(refusal_of(answer), self);
+        let Ok((h, first)) = answer else {
+            return Step::Refused(answer.unwrap_err(), self);
         };
         let from = self.stands_for(first);
         match boundary_at(file, h, from.at) {
-            Boundary::EndMark => if from.dna {
-                Step::End(from.at + 4, self)
-            } else {
-                Step::Refused(Fault::Refusal(Fault::NO_DNA_BLOCK_FOUND), self)
-            },
-            Boundary::Block(row, last, next) => Step::Block(
+            Ok(Boundary::Block(row, last, next)) => Step::Block(
                 row,
                 Place {
                     at: next,
-                    dna: last_is_dna(last),
+                    dna: last.is_some(),
                 },
             ),
-            Boundary::Stopped(f) => Step::Refused(f, self),
+            Ok(Boundary::EndMark) => if from.dna {
+                Step::End(from.at + 4, self)
+            } else {
+                Step::Refused(Fault::Refusal(Refusal::NoDnaBlockFound), self)
+            },
+            Err(f) => Step::Refused(f, self),
         }
     }
 }

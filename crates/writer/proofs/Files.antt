@@ -1,15 +1,13 @@
 -- The file that is written: how long it is, its blocks one after another, and what the writer answers.
+use Rattle.std.specs.Prelude.{Ok, None}
 use Prim.Native.Nat.{ℕ, ◌+◌, ◌-◌, ◌/◌, ◌≤◌, ◌<◌}
 use mathlib.Core.List.{List, [], ◌∷◌, ◌++◌}
 use mathlib.Core.Path.{◌≡◌, refl, sym, ◌∙◌, ap, subst}
 use native.Mathlib.Omega.{arith}
-use borrow.Author.Tests.{lt-ltb, le-ltb}
 use lib.ListN.{length, length-append}
 use Rattle.octets.specs.declared.Endianness.{Endianness}
-use Rattle.octets.specs.declared.Fault.{Fault}
 use Rattle.octets.specs.Ascii.{ascii}
 use Rattle.octets.proofs.Parts.{part-long}
-use Rattle.octets.proofs.Tests.{held, failed}
 use Rattle.header.specs.declared.Header.{Header}
 use Rattle.header.specs.Header.{header_length}
 use Rattle.header.specs.HeaderOut.{header_out}
@@ -19,15 +17,12 @@ use Rattle.block.specs.declared.Row.{Row}
 use Rattle.block.specs.Rows.{per_row, payload_of, row_spelt, rows_spelt}
 use Rattle.block.specs.Spelling.{block_header_out}
 use Rattle.block.proofs.BlockHeadersOut.{block_header_out-length}
-use Rattle.blend.specs.declared.blend.Last.{Last}
-use Rattle.writable.specs.declared.writable.Needed.{Needed}
-use Rattle.writable.specs.Writable.{blocks_length, file_length, needed_of}
+use Rattle.writable.specs.Writable.{Last, blocks_length, file_length, needed_of}
 use Rattle.writable.proofs.Judging.{rows_more, rows_none}
 use Rattle.writable.proofs.Accepted.{AllTaken, Accepts, accepts}
 use Rattle.writable.proofs.Answers.{needed_rows, needed_there}
-use Rattle.writer.specs.declared.writer.WriteAnswer.{WriteAnswer}
 use Rattle.writer.specs.Helpers.{Inside}
-use Rattle.writer.specs.Writer.{blocks_out, file_out, answer_in, write_of}
+use Rattle.writer.specs.Writer.{blocks_out, file_out}
 
 -- the payloads of rows that are taken are in the source
 pub taken-inside : (e : Endianness) (s : List ℕ) (rs : List Row) (last l : Last) → AllTaken e s rs last l → Inside s rs
@@ -73,23 +68,8 @@ module _ (h : Header) (s t : List ℕ) (rows row : ℕ) where
       let j = subst (Inside s) (rows_more t rows row k) i in
       (rw g j.0, j.1)
 
--- What the writer answers, by what is needed.
-module _ (h : Header) (t : List ℕ) (rows : ℕ) (s : List ℕ) (room : ℕ) (x : Needed) (q : x ≡ needed_of h t rows s) where
-  pub write-refused : (f : Fault) → x ≡ Needed.Refused f → WriteAnswer.Refused f ≡ write_of h t rows s room
-  write-refused f e = ap (λ (y : Needed). answer_in y room) (sym e ∙ q)
-
-  pub write-no-room : (row : ℕ) → x ≡ Needed.NoRoom row → WriteAnswer.NoRoom row ≡ write_of h t rows s room
-  write-no-room row e = ap (λ (y : Needed). answer_in y room) (sym e ∙ q)
-
-  module _ (n : ℕ) (e : x ≡ Needed.Bytes n) where
-    pub write-short : room < n → WriteAnswer.TooShort n ≡ write_of h t rows s room
-    write-short k = sym (held _ _ (lt-ltb _ _ k)) ∙ ap (λ (y : Needed). answer_in y room) (sym e ∙ q)
-
-    pub write-written : n ≤ room → WriteAnswer.Written n ≡ write_of h t rows s room
-    write-written k = sym (failed _ _ (le-ltb _ _ k)) ∙ ap (λ (y : Needed). answer_in y room) (sym e ∙ q)
-
 -- What is known where it writes.
-module _ (h : Header) (t : List ℕ) (rows : ℕ) (s : List ℕ) (n : ℕ) (e : Needed.Bytes n ≡ needed_of h t rows s) where
+module _ (h : Header) (t : List ℕ) (rows : ℕ) (s : List ℕ) (n : ℕ) (e : (Ok n) ≡ needed_of h t rows s) where
   abbrev rs : List Row
   rs = rows_spelt t rows 0
 
@@ -100,7 +80,7 @@ module _ (h : Header) (t : List ℕ) (rows : ℕ) (s : List ℕ) (n : ℕ) (e : 
   rows-there = needed_there h t rows s n e
 
   pub rows_inside : Inside s rs
-  rows_inside = taken-inside h.endianness s rs Last.Other _ can.taken
+  rows_inside = taken-inside h.endianness s rs None _ can.taken
 
   pub file-long : length (file_out h s rs) ≡ n
   file-long = file_out-length h s rs rows_inside ∙ sym can.long

@@ -1,44 +1,33 @@
 -- Stores one after the other: what the second stores comes after what the first stored.
-use Prim.Native.Nat.{ℕ, ◌+◌, ◌^◌}
+use Prim.Native.Nat.{ℕ, ◌+◌}
 use mathlib.Core.List.{List, [], ◌++◌}
-use mathlib.Core.Path.{◌≡◌, refl, sym, ◌∙◌, ap}
+use mathlib.Core.Path.{◌≡◌, refl, sym, ◌∙◌}
 use native.Mathlib.Omega.{arith}
 use lib.ListN.{length}
 use Rattle.octets.specs.declared.Endianness.{Endianness}
-use Rattle.octets.specs.declared.Endianness.TheVariants.{Little}
-use Rattle.octets.specs.Helpers.{put, first_half, second_half}
+use Rattle.octets.specs.Helpers.{put}
+use Rattle.writer.specs.declared.sink.Sink.{Sink}
+use Rattle.writer.specs.Helpers.{Stores}
 use Rattle.octets.specs.Number.{bytes_of}
 use Rattle.octets.proofs.Filling.{put-append}
-use Rattle.octets.proofs.Spelling.{bytes_of-length, bytes_of_halves}
+use Rattle.octets.proofs.Spelling.{bytes_of-length}
 
--- What a store ensures: the numbers `vs` stand in the `n` places from `i` on, which end at `j`, and the rest of the table is as it was.
-abbrev pub Put : List ℕ → ℕ → ℕ → List ℕ → List ℕ → ℕ → Type 0
-Put t i n vs t' j = (j ≡ i + n) × (t' ≡ put t i vs)
+-- nothing stored
+pub stored-none : (s : Sink) → Stores s 0 [] s
+unfolding put
+stored-none s = record { same_reference = refl; long = refl; at_after = omega arith; out_after = refl }
 
-module _ (t : List ℕ) (i : ℕ) where
-  -- nothing stored
-  pub put-none : Put t i 0 [] t i
-  unfolding put
-  put-none = (omega arith, refl)
+module _ {a b c : Sink} where
+  pub stored_both : (m n k : ℕ) (vs ws : List ℕ) → length vs ≡ m → k ≡ m + n → Stores a m vs b → Stores b n ws c → Stores a k (vs ++ ws) c
+  stored_both m n k vs ws l e p q =
+      let i : b.at ≡ a.at + length vs = omega (arith, p.at_after) in
+      record {
+        same_reference = q.same_reference ∙ p.same_reference;
+        long = q.long ∙ p.long;
+        at_after = omega (arith, p.at_after, q.at_after);
+        out_after = q.out_after ∙ rw (p.out_after, i) (sym (put-append a.out.now a.at vs ws));
+      }
 
-  module _ {t₁ t₂ : List ℕ} {j k : ℕ} where
-    -- two stores
-    pub put_both : (m n : ℕ) (vs ws : List ℕ) → length vs ≡ m → Put t i m vs t₁ j → Put t₁ j n ws t₂ k → Put t i (m + n) (vs ++ ws) t₂ k
-    put_both m n vs ws l p q =
-        let e : j ≡ i + length vs = omega (arith, p.0) in
-        (omega (arith, p.0, q.0), q.1 ∙ rw (p.1, e) (sym (put-append t i vs ws)))
-
-    -- a number, and what comes after it
-    pub put-number : (o : Endianness) (w x n : ℕ) (ws : List ℕ) → Put t i w (bytes_of o w x) t₁ j → Put t₁ j n ws t₂ k → Put t i (w + n) (bytes_of o w x ++ ws) t₂ k
-    put-number o w x n ws = put_both w n (bytes_of o w x) ws (bytes_of-length o w x)
-
-    -- a mark that a number spells, and what comes after it
-    pub put-mark : (x n : ℕ) (vs ws : List ℕ) → bytes_of Little 1 x ≡ vs → Put t i 1 (bytes_of Little 1 x) t₁ j → Put t₁ j n ws t₂ k → Put t i (1 + n) (vs ++ ws) t₂ k
-    put-mark x n vs ws e p q = rw (← e) (put-number Little 1 x n ws p q)
-
-    -- the two halves of a number
-    pub put_halves : (o : Endianness) (w base x a b : ℕ) → base ≡ 256 ^ w → (a ≡ first_half o base x) × (b ≡ second_half o base x)
-        → Put t i w (bytes_of o w a) t₁ j → Put t₁ j w (bytes_of o w b) t₂ k → Put t i (w + w) (bytes_of o (w + w) x) t₂ k
-    put_halves o w base x a b h e p q =
-        let r = put-number o w a w (bytes_of o w b) p q in
-        (r.0, r.1 ∙ ap (put t i) (rw (e.0, e.1) (sym (bytes_of_halves o w base x h))))
+  -- a number, and what comes after it
+  pub stored-number : (o : Endianness) (w x n k : ℕ) (ws : List ℕ) → k ≡ w + n → Stores a w (bytes_of o w x) b → Stores b n ws c → Stores a k (bytes_of o w x ++ ws) c
+  stored-number o w x n k ws = stored_both w n k (bytes_of o w x) ws (bytes_of-length o w x)

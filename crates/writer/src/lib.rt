@@ -1,4 +1,4 @@
 #![tactic(auto)]
 
-mod put;
+mod sink;
 pub mod writer;

@@ -10,19 +10,19 @@ use Rattle.blend.proofs.blend.finished.Goals as goal
 pub within-requires : goal.within-requires
 within-requires c =
     let a = c.args in
-    (omega (arith, c.requires), dna-placed a.h a.s.now a.r a.next _ (whole_kind c.of_code.result _ c.of_code.ensures) _ (ap (λ (x : About). x.dna) c.about-about.ensures) c.if-about.true _ (slice-same a.s.now a.r.payload a.r.len) _ c.dna_counts.ensures _ c.in-Stopped.is _ (slice-long a.s.now a.r.payload a.r.len c.requires))
+    (omega (arith, c.requires), dna-placed a.h a.s.now a.r a.next _ (whole_kind c.of_code.result _ c.of_code.ensures) _ (ap (λ (x : About). x.dna) c.about.ensures) c.if-about.true _ (slice-same a.s.now a.r.payload a.r.len) _ c.dna_counts.ensures _ c.in-Err.is _ (slice-long a.s.now a.r.payload a.r.len c.requires))
 
-pub returns-in-Are : goal.returns-in-Are
-returns-in-Are c =
+pub returns-in-Ok : goal.returns-in-Ok
+returns-in-Ok c =
     let a = c.args in
-    dna-finished a.h a.s.now a.r a.next _ (whole_kind c.of_code.result _ c.of_code.ensures) _ (ap (λ (x : About). x.dna) c.about-about.ensures) c.if-about.true _ (slice-same a.s.now a.r.payload a.r.len) _ c.dna_counts.ensures _ _ c.in-Are.is
+    dna-finished a.h a.s.now a.r a.next _ (whole_kind c.of_code.result _ c.of_code.ensures) _ (ap (λ (x : About). x.dna) c.about.ensures) c.if-about.true _ (slice-same a.s.now a.r.payload a.r.len) _ c.dna_counts.ensures _ _ c.in-Ok.is
 
-pub returns-in-Stopped : goal.returns-in-Stopped
-returns-in-Stopped c =
+pub returns-in-Err : goal.returns-in-Err
+returns-in-Err c =
     let a = c.args in
-    dna-stopped a.h a.s.now a.r a.next _ (whole_kind c.of_code.result _ c.of_code.ensures) _ (ap (λ (x : About). x.dna) c.about-about.ensures) c.if-about.true _ (slice-same a.s.now a.r.payload a.r.len) _ c.dna_counts.ensures _ c.in-Stopped.is _ c.within.ensures
+    dna-stopped a.h a.s.now a.r a.next _ (whole_kind c.of_code.result _ c.of_code.ensures) _ (ap (λ (x : About). x.dna) c.about.ensures) c.if-about.true _ (slice-same a.s.now a.r.payload a.r.len) _ c.dna_counts.ensures _ c.in-Err.is _ c.within.ensures
 
 pub returns-else-about : goal.returns-else-about
 returns-else-about c =
     let a = c.args in
-    other_finished a.h a.s.now a.r a.next _ (whole_kind c.of_code.result _ c.of_code.ensures) _ (ap (λ (x : About). x.dna) c.about-about.ensures) c.if-about.false
+    other_finished a.h a.s.now a.r a.next _ (whole_kind c.of_code.result _ c.of_code.ensures) _ (ap (λ (x : About). x.dna) c.about.ensures) c.if-about.false

@@ -1,26 +1,27 @@
 -- `one_struct`: type number, count, and past the fields, whose number is the count.
-use mathlib.Core.Path.{sym, ◌∙◌, ap}
-use Rattle.octets.specs.Cursor.{moved, numbered}
+use mathlib.Core.Path.{◌∙◌}
+use Rattle.octets.proofs.Results.{handed_on}
 use Rattle.dna.proofs.Counting.{struct-stops, struct-stops_later, struct-stops-fields, struct-headed}
-use Rattle.dna.proofs.Shorts.{struct-ends, struct-within}
+use Rattle.dna.proofs.Shorts.{fields-reach, struct-ends, struct-within}
 use Rattle.dna.proofs.dna.one_struct.Goals as goal
 
-pub returns-in-Stopped : goal.returns-in-Stopped
-returns-in-Stopped c =
+pub returns-in_err-kind : goal.returns-in_err-kind
+returns-in_err-kind c =
     let a = c.args in
-    struct-stops a.e a.s.now a.c.at _ (ap numbered (sym c.in-Stopped.is) ∙ c.number.ensures)
+    rw (handed_on _ _ c.from_residual.ensures.1) (struct-stops a.e a.s.now a.c.at _ c.in_err-kind.ensures)
 
-pub returns-in-Stopped-number : goal.returns-in-Stopped-number
-returns-in-Stopped-number c =
+pub returns-in_err-n : goal.returns-in_err-n
+returns-in_err-n c =
     let a = c.args in
-    struct-stops_later a.e a.s.now a.c.at _ _ (ap numbered (sym c.in-Is.is) ∙ c.number.ensures) _ (ap numbered (sym c.in-Stopped-number.is) ∙ c.number-in-Is.ensures)
+    rw (handed_on _ _ c.from_residual-in_err-n.ensures.1) (struct-stops_later a.e a.s.now a.c.at _ _ c.in_ok-kind.ensures _ c.in_err-n.ensures)
 
-pub returns-in-Stopped-fields_past : goal.returns-in-Stopped-fields_past
-returns-in-Stopped-fields_past c =
+pub returns-in_err-last : goal.returns-in_err-last
+returns-in_err-last c =
     let a = c.args in
-    struct-stops-fields a.e a.s.now a.c.at _ _ (ap numbered (sym c.in-Is.is) ∙ c.number.ensures) _ _ (ap numbered (sym c.in-Is-number.is) ∙ c.number-in-Is.ensures) _ (ap moved (sym c.in-Stopped-fields_past.is) ∙ c.fields_past.ensures a.e)
+    rw (handed_on _ _ c.from_residual-in_err-last.ensures.1) (struct-stops-fields a.e a.s.now a.c.at _ _ c.in_ok-kind.ensures _ _ c.in_ok-n.ensures _ (c.in_err-last.ensures ∙ fields-reach a.s.now a.e _ _))
 
-pub returns-in-To : goal.returns-in-To
-returns-in-To c =
+pub returns : goal.returns
+returns c =
     let a = c.args in
-    (struct-headed a.e a.s.now a.c.at _ _ _ _ _ (ap numbered (sym c.in-Is.is) ∙ c.number.ensures) (ap numbered (sym c.in-Is-number.is) ∙ c.number-in-Is.ensures) (ap moved (sym c.in-To.is) ∙ c.fields_past.ensures a.e), struct-ends a.e a.s.now a.c.at _ _ _ _ _ (ap numbered (sym c.in-Is.is) ∙ c.number.ensures) (ap numbered (sym c.in-Is-number.is) ∙ c.number-in-Is.ensures) (ap moved (sym c.in-To.is) ∙ c.fields_past.ensures a.e), struct-within a.e a.s.now a.c.at _ _ _ _ _ (ap numbered (sym c.in-Is.is) ∙ c.number.ensures) (ap numbered (sym c.in-Is-number.is) ∙ c.number-in-Is.ensures) (ap moved (sym c.in-To.is) ∙ c.fields_past.ensures a.e))
+    let g = c.in_ok-last.ensures ∙ fields-reach a.s.now a.e _ _ in
+    (struct-headed a.e a.s.now a.c.at _ _ _ _ _ c.in_ok-kind.ensures c.in_ok-n.ensures g, struct-ends a.e a.s.now a.c.at _ _ _ _ _ c.in_ok-kind.ensures c.in_ok-n.ensures g, struct-within a.e a.s.now a.c.at _ _ _ _ _ c.in_ok-kind.ensures c.in_ok-n.ensures g)

@@ -1,6 +1,6 @@
 -- `room_for`: the four tests in order.
 use Rattle.dna.specs.Catalogue.{rooms}
-use Rattle.dna.proofs.Answers.{names-short, types-short, structs-short, fields-short, none-short}
+use Rattle.dna.proofs.Answers.{names-short, types-short, structs-short, fields-short}
 use Rattle.dna.proofs.dna.room_for.Goals as goal
 
 pub returns-then-names-n : goal.returns-then-names-n
@@ -22,8 +22,3 @@ pub returns-then-fields-n : goal.returns-then-fields-n
 returns-then-fields-n c =
     let a = c.args in
     fields-short a.n (rooms a.names a.types a.structs a.fields) c.if-names-n.false c.if-types-n.false c.if-structs-n.false c.if-fields-n.true
-
-pub returns : goal.returns
-returns c =
-    let a = c.args in
-    none-short a.n (rooms a.names a.types a.structs a.fields) c.if-names-n.false c.if-types-n.false c.if-structs-n.false c.if-fields-n.false

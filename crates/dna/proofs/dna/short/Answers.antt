@@ -1,15 +1,14 @@
 -- `short`: the value of a slice of two bytes, which is never too short.
-use mathlib.Core.Path.{sym, ◌∙◌, ap}
-use Rattle.primitive.specs.Primitive.{paper_u16}
-use Rattle.primitive.proofs.Values.{value-is, value_lacks}
+use mathlib.Core.Path.{◌∙◌}
+use Rattle.dna.proofs.Shorts.{short-there, short-is}
 use Rattle.dna.proofs.dna.short.Goals as goal
 
-pub returns-in-Is : goal.returns-in-Is
-returns-in-Is c =
+pub unwrap-requires : goal.unwrap-requires
+unwrap-requires c =
     let a = c.args in
-    value-is 2 a.e a.s.now a.at c.requires _ (ap paper_u16 (sym c.in-Is.is) ∙ c.parse_u16.ensures)
+    short-there a.e a.s.now a.at c.requires c.parse_u16.result c.parse_u16.ensures
 
-pub returns-in-Refused : goal.returns-in-Refused
-returns-in-Refused c =
+pub returns : goal.returns
+returns c =
     let a = c.args in
-    value_lacks 2 a.e a.s.now a.at c.requires _ (ap paper_u16 (sym c.in-Refused.is) ∙ c.parse_u16.ensures)
+    c.from.ensures ∙ short-is a.e a.s.now a.at c.requires c.parse_u16.result c.parse_u16.ensures _ c.unwrap.ensures

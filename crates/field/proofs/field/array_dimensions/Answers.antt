@@ -1,55 +1,40 @@
--- `array_dimensions` takes the groups while they are complete. The invariant: what was found so far and the groups from here on are what
--- there is in all.
-use mathlib.Core.Path.{refl, sym, ◌∙◌}
+-- `array_dimensions` takes the groups while they are complete.
+use Prim.Native.Nat.{◌+◌, ◌≤◌}
+use mathlib.Core.Path.{◌≡◌, sym, ◌∙◌}
 use native.Mathlib.Omega.{arith}
-use lib.ListN.{drop, length-drop}
+use lib.ListN.{length, drop}
 use lib.Seq.{drop-drop}
-use Rattle.field.proofs.Dimensions.{group_at, span_within, finish-is, finish_bad, finish_absent}
+use Rattle.std.specs.Prelude.{Some, Ok}
+use Rattle.octets.proofs.Results.{handed_on}
+use Rattle.field.specs.Helpers.{group_of}
+use Rattle.field.proofs.Dimensions.{group_at, within, finish-is, finish_bad, finish_absent}
 use Rattle.field.proofs.field.array_dimensions.Goals as goal
+use Rattle.field.proofs.field.array_dimensions.Goals.{In-Some}
 
-pub loop-d-init : goal.loop-d-init
-loop-d-init c = (omega arith, omega arith, refl)
+-- the group at the place, and that it lies within the bytes
+turn : (c : In-Some) → group_of (drop c.loop-d.at c.args.l.now) ≡ Ok (Some (c.in-Some.d, c.in-Some.span))
+turn c = group_at c.args.l.now c.loop-d.at _ (rw c.in-Some.is at c.in_ok-d.ensures)
 
-pub slice_bounds-one_group-count : goal.slice_bounds-one_group-count
-slice_bounds-one_group-count c = omega arith
+inside : (c : In-Some) → (2 ≤ c.in-Some.span) × (c.loop-d.at + c.in-Some.span ≤ length c.args.l.now)
+inside c = within c.args.l.now c.loop-d.at _ _ c.loop-d.invariant.0 (turn c)
 
-pub one_group-requires : goal.one_group-requires
-one_group-requires c = tt
-
-pub times-product-requires : goal.times-product-requires
-times-product-requires c = tt
-
-pub overflow_add-count : goal.overflow_add-count
-overflow_add-count c =
+pub returns-in_err-d : goal.returns-in_err-d
+returns-in_err-d c =
     let l = c.args.l.now in
-    let w = span_within (drop c.loop-d.at l) _ _ (group_at l c.loop-d.at _ _ c.one_group.ensures c.in-Is.is) in
-    omega (arith, w.1, length-drop c.loop-d.at l)
+    handed_on _ _ c.from_residual.ensures.1 ∙ finish_bad _ _ _ _ _ (group_at l c.loop-d.at _ c.in_err-d.ensures) ∙ sym c.loop-d.invariant.2
 
 pub overflow_add-at : goal.overflow_add-at
-overflow_add-at c =
-    let l = c.args.l.now in
-    let w = span_within (drop c.loop-d.at l) _ _ (group_at l c.loop-d.at _ _ c.one_group.ensures c.in-Is.is) in
-    omega (arith, w.1, length-drop c.loop-d.at l)
+overflow_add-at c = omega (arith, inside (goal.at.overflow_add-at c).In-Some)
 
 pub loop-d-smaller : goal.loop-d-smaller
-loop-d-smaller c =
-    let l = c.args.l.now in
-    let w = span_within (drop c.loop-d.at l) _ _ (group_at l c.loop-d.at _ _ c.one_group.ensures c.in-Is.is) in
-    omega (arith, w.0, w.1, length-drop c.loop-d.at l)
+loop-d-smaller c = omega (arith, inside (goal.at.loop-d-smaller c).In-Some)
 
 pub loop-d-preserved : goal.loop-d-preserved
 loop-d-preserved c =
-    let l = c.args.l.now in
-    let g = group_at l c.loop-d.at _ _ c.one_group.ensures c.in-Is.is in
-    let w = span_within (drop c.loop-d.at l) _ _ g in
-    (omega (arith, w.1, length-drop c.loop-d.at l), omega (arith, w.0, w.1), c.loop-d.invariant.2 ∙ finish-is _ _ _ _ _ _ g ∙ rw (drop-drop, c.times-product.ensures))
+    let w = inside (goal.at.loop-d-preserved c).In-Some in
+    (w.1, omega (arith, w.0), c.loop-d.invariant.2 ∙ finish-is _ _ _ _ _ _ (turn (goal.at.loop-d-preserved c).In-Some) ∙ rw (drop-drop, c.times-product.ensures))
 
-pub returns-in-Bad : goal.returns-in-Bad
-returns-in-Bad c =
+pub returns : goal.returns
+returns c =
     let l = c.args.l.now in
-    finish_bad _ _ _ _ (group_at l c.loop-d.at _ _ c.one_group.ensures c.in-Bad.is) ∙ sym c.loop-d.invariant.2
-
-pub returns-in-Absent : goal.returns-in-Absent
-returns-in-Absent c =
-    let l = c.args.l.now in
-    finish_absent _ _ _ _ (group_at l c.loop-d.at _ _ c.one_group.ensures c.in-Absent.is) ∙ sym c.loop-d.invariant.2
+    finish_absent _ _ _ _ (group_at l c.loop-d.at _ (rw c.in_default.is at c.in_ok-d.ensures)) ∙ sym c.loop-d.invariant.2

@@ -1,17 +1,20 @@
 -- `new`: the unchecked bytes, the pointer mark, and the rest.
-use mathlib.Core.Path.{sym, ◌∙◌, ap}
-use Rattle.octets.specs.Cursor.{moved}
-use Rattle.header.specs.Header.{pointer_size_read}
-use Rattle.header.proofs.Headers.{new-no-bytes, new-no-mark, new-made}
+use mathlib.Core.Path.{◌∙◌, ap}
+use Rattle.octets.specs.Cursor.{found}
+use Rattle.octets.proofs.Results.{handed_on}
+use Rattle.header.proofs.Headers.{new-no-bytes, new-no-mark, new-cut, new-made}
 use Rattle.header.proofs.blend.new.Goals as goal
 
-pub returns-in-Stopped : goal.returns-in-Stopped
-returns-in-Stopped c = new-no-bytes c.args.s.now _ _ (ap moved (sym c.in-Stopped.is) ∙ c.bytes.ensures)
+pub returns-in_err-mark : goal.returns-in_err-mark
+returns-in_err-mark c = ap found (handed_on _ _ c.from_residual.ensures.1) ∙ new-no-bytes c.args.s.now _ _ c.in_err-mark.ensures
 
-pub returns-in-Stopped-pointer_size : goal.returns-in-Stopped-pointer_size
-returns-in-Stopped-pointer_size c =
-    new-no-mark c.args.s.now _ _ (ap moved (sym c.in-To.is) ∙ c.bytes.ensures) _ (ap pointer_size_read (sym c.in-Stopped-pointer_size.is) ∙ c.pointer_size.ensures)
+pub returns-in_err-size : goal.returns-in_err-size
+returns-in_err-size c =
+    ap found (handed_on _ _ c.from_residual-in_err-size.ensures.1) ∙ new-no-mark c.args.s.now _ _ c.in_ok-mark.ensures _ c.in_err-size.ensures
 
-pub returns-in-Is : goal.returns-in-Is
-returns-in-Is c =
-    new-made c.args.s.now _ _ (ap moved (sym c.in-To.is) ∙ c.bytes.ensures) _ _ (ap pointer_size_read (sym c.in-Is.is) ∙ c.pointer_size.ensures) _ c.new_order.ensures
+pub returns-in_err-last : goal.returns-in_err-last
+returns-in_err-last c =
+    ap found (handed_on _ _ c.from_residual-in_err-last.ensures.1) ∙ new-cut c.args.s.now _ _ c.in_ok-mark.ensures _ _ c.in_ok-size.ensures _ c.in_err-last.ensures
+
+pub returns : goal.returns
+returns c = new-made c.args.s.now _ _ c.in_ok-mark.ensures _ _ c.in_ok-size.ensures _ c.in_ok-last.ensures _ c.ordered.ensures

@@ -1,26 +1,21 @@
 -- `find`: all is there, and a chain is followed; or it is refused.
-use mathlib.Core.Path.{sym, ◌∙◌, ap}
-use Rattle.index.specs.Index.{paper_indexed}
+use mathlib.Core.Path.{◌∙◌}
+use Rattle.octets.proofs.Results.{handed_on}
 use Rattle.index.proofs.Room.{room-there}
-use Rattle.index.proofs.Answers.{finds-null, finds, finds_not}
+use Rattle.index.proofs.Answers.{finds-null, finds, finds_refused}
 use Rattle.index.proofs.index.find.Goals as goal
 
 pub returns-then-address-eq0 : goal.returns-then-address-eq0
 returns-then-address-eq0 c =
     let a = c.args in
-    finds-null a.table.now a.rows a.buckets a.heads.now a.links.now a.address (room-there _ _ _ _ _ (ap paper_indexed (sym c.in-Built.is) ∙ c.room_for.ensures)) c.if-address-eq0.true
+    finds-null a.table.now a.rows a.buckets a.heads.now a.links.now a.address (room-there _ _ _ _ _ c.in_ok-room_for.ensures) c.if-address-eq0.true
 
-pub returns-else-address-eq0 : goal.returns-else-address-eq0
-returns-else-address-eq0 c =
+pub returns : goal.returns
+returns c =
     let a = c.args in
-    c.follow.ensures ∙ finds a.table.now a.rows a.buckets a.heads.now a.links.now a.address (room-there _ _ _ _ _ (ap paper_indexed (sym c.in-Built.is) ∙ c.room_for.ensures)) c.if-address-eq0.false
+    c.follow.ensures ∙ finds a.table.now a.rows a.buckets a.heads.now a.links.now a.address (room-there _ _ _ _ _ c.in_ok-room_for.ensures) c.if-address-eq0.false
 
-pub returns-in-Refused : goal.returns-in-Refused
-returns-in-Refused c =
+pub returns-in_err-room_for : goal.returns-in_err-room_for
+returns-in_err-room_for c =
     let a = c.args in
-    finds_not a.table.now a.rows a.buckets a.heads.now a.links.now a.address _ _ (ap paper_indexed (sym c.in-Refused.is) ∙ c.room_for.ensures)
-
-pub returns-in-TooShort : goal.returns-in-TooShort
-returns-in-TooShort c =
-    let a = c.args in
-    finds_not a.table.now a.rows a.buckets a.heads.now a.links.now a.address _ _ (ap paper_indexed (sym c.in-TooShort.is) ∙ c.room_for.ensures)
+    rw (handed_on _ _ c.from_residual.ensures.1) (finds_refused a.table.now a.rows a.buckets a.heads.now a.links.now a.address _ c.in_err-room_for.ensures)

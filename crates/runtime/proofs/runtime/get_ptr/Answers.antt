@@ -1,5 +1,4 @@
 -- `get_ptr`: what is left of the search from a row on is all of it.
-use native.Mathlib.Omega.{arith}
 use Rattle.runtime.proofs.Views.{lookup_short, lookup_null, lookup_starts, lookup_found, lookup_on, lookup_missing}
 use Rattle.runtime.proofs.runtime.get_ptr.Goals as goal
 
@@ -16,33 +15,21 @@ returns-then-address-eq0 c =
 pub loop-row-init : goal.loop-row-init
 loop-row-init c =
     let a = c.args in
-    (lookup_starts a.table.now a.rows a.address c.if-table-rows.false c.if-address-eq0.false, c.if-table-rows.false)
-
-pub cell-code-requires : goal.cell-code-requires
-cell-code-requires c = (omega (arith, c.loop-row.invariant.1, c.loop-row-test.true), omega arith)
-
-pub cell-requires : goal.cell-requires
-cell-requires c = (omega (arith, c.loop-row.invariant.1, c.loop-row-test.true), omega arith)
+    lookup_starts a.table.now a.rows a.address c.if-table-rows.false c.if-address-eq0.false
 
 pub returns-then-matches : goal.returns-then-matches
 returns-then-matches c =
     let a = c.args in
     let l = c.loop-row in
-    lookup_found a.table.now a.rows a.address l.row l.invariant.0 c.loop-row-test.true _ _ _ c.matches.ensures c.cell-code.ensures c.cell.ensures c.if-matches.true
-
-pub overflow_add-row : goal.overflow_add-row
-overflow_add-row c = omega (arith, c.loop-row-test.true)
-
-pub loop-row-smaller : goal.loop-row-smaller
-loop-row-smaller c = omega (arith, c.loop-row-test.true)
+    lookup_found a.table.now a.rows a.address l.row l.invariant c.loop-row-test.true _ _ _ c.matches.ensures c.cell-code.ensures c.cell.ensures c.if-matches.true
 
 pub loop-row-preserved : goal.loop-row-preserved
 loop-row-preserved c =
     let a = c.args in
     let l = c.loop-row in
-    (lookup_on a.table.now a.rows a.address l.row l.invariant.0 c.loop-row-test.true _ _ _ c.matches.ensures c.cell-code.ensures c.cell.ensures c.if-matches.false, l.invariant.1)
+    lookup_on a.table.now a.rows a.address l.row l.invariant c.loop-row-test.true _ _ _ c.matches.ensures c.cell-code.ensures c.cell.ensures c.if-matches.false
 
 pub returns : goal.returns
 returns c =
     let a = c.args in
-    lookup_missing a.table.now a.rows a.address c.loop-row.row c.loop-row.invariant.0 c.loop-row-test.false
+    lookup_missing a.table.now a.rows a.address c.loop-row.row c.loop-row.invariant c.loop-row-test.false

@@ -1,6 +1,4 @@
 -- `judge`: the address, the payload, and then the code.
-use mathlib.Core.Path.{sym, ◌∙◌, ap}
-use Rattle.octets.specs.Cursor.{moved}
 use Rattle.octets.proofs.Parts.{skip-room, skip-short}
 use Rattle.writable.proofs.Judging.{null-judged, outside-judged, inside-judged}
 use Rattle.writable.proofs.writable.judge.Goals as goal
@@ -10,14 +8,14 @@ returns-then-r-eq0 c =
     let a = c.args in
     null-judged a.order a.source.now a.r c.if-r-eq0.true
 
-pub returns-in-Stopped : goal.returns-in-Stopped
-returns-in-Stopped c =
+pub returns-in-Err : goal.returns-in-Err
+returns-in-Err c =
     let a = c.args in
-    let g = skip-short a.r.len a.source.now a.r.payload _ (sym (ap moved c.in-Stopped.is) ∙ c.skip.ensures) in
+    let g = skip-short a.r.len a.source.now a.r.payload _ c.in-Err.ensures in
     outside-judged a.order a.source.now a.r c.if-r-eq0.false g.1
 
-pub returns-in-To : goal.returns-in-To
-returns-in-To c =
+pub returns-in-Ok : goal.returns-in-Ok
+returns-in-Ok c =
     let a = c.args in
-    let g = skip-room a.r.len a.source.now a.r.payload _ (sym (ap moved c.in-To.is) ∙ c.skip.ensures) in
+    let g = skip-room a.r.len a.source.now a.r.payload _ c.in-Ok.ensures in
     inside-judged a.order a.source.now a.r c.if-r-eq0.false g.1 _ c.part.ensures _ c.judge_code.ensures

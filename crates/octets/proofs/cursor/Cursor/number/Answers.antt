@@ -1,16 +1,16 @@
 -- `number` reads a number of a width and an order at the place.
-use mathlib.Core.Path.{sym, ◌∙◌}
-use borrow.Author.Tests.{leb-true, leb-false}
+use mathlib.Core.Path.{sym}
 use Rattle.octets.proofs.Reading.{numbered_in, numbered-out}
+use Rattle.octets.proofs.Results.{handed_on}
 use Rattle.octets.proofs.cursor.Cursor.number.Goals as goal
 
-pub returns-then-has : goal.returns-then-has
-returns-then-has c =
+pub returns-in_err-end : goal.returns-in_err-end
+returns-in_err-end c =
     let a = c.args in
-    numbered_in a.order a.s.now _ _ _ c.bytes_num-n.ensures
-    (leb-true _ _ (sym c.has.ensures ∙ c.if-has.true)) _ c.number.ensures
+    rw (handed_on _ _ c.from_residual.ensures.1, c.in_err-end.ensures.0) (numbered-out a.order a.s.now _ _ _ c.bytes_num.ensures c.in_err-end.ensures.1)
 
-pub returns-else-has : goal.returns-else-has
-returns-else-has c =
+pub returns : goal.returns
+returns c =
     let a = c.args in
-    numbered-out a.order a.s.now _ _ _ c.bytes_num-n.ensures (leb-false _ _ (sym c.has.ensures ∙ c.if-has.false))
+    let h = c.in_ok-end.ensures in
+    rw h.0 (numbered_in a.order a.s.now _ _ _ c.bytes_num.ensures h.1 _ (rw (sym h.0) c.number.ensures))

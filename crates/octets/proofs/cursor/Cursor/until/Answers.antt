@@ -1,16 +1,22 @@
 -- `until` goes past the bytes up to a byte, and that byte.
-use Rattle.octets.proofs.Reading.{counted_in, counted-out, counted-past}
+use Prim.Native.Nat.{ℕ, ◌+◌, ◌-◌}
+use mathlib.Core.Path.{◌≡◌, ap}
+use native.Mathlib.Omega.{arith}
+use Rattle.octets.proofs.Reading.{to_the_end, counted_in, counted-out, counted-past}
 use Rattle.octets.proofs.cursor.Cursor.until.Goals as goal
 
 pub returns-then-s-at : goal.returns-then-s-at
 returns-then-s-at c = counted-past c.args.c c.args.s.now _ c.if-s-at.true
 
-pub returns-then-end-s : goal.returns-then-end-s
-returns-then-end-s c =
+pub returns-then-n-s : goal.returns-then-n-s
+returns-then-n-s c =
     let a = c.args in
-    counted_in a.c a.s.now a.self.at _ c.place_from-end.ensures c.if-end-s.true
+    let at = a.self.at in
+    let k : at + c.before-n.result - at ≡ c.before-n.result = omega arith in
+    rw k at (counted_in a.c a.s.now at (at + c.before-n.result) (ap (λ (n : ℕ). at + n) (rw (to_the_end a.s.now at) at c.before-n.ensures)) (omega (arith, c.if-n-s.true)))
 
-pub returns-else-end-s : goal.returns-else-end-s
-returns-else-end-s c =
+pub returns-else-n-s : goal.returns-else-n-s
+returns-else-n-s c =
     let a = c.args in
-    counted-out a.c a.s.now a.self.at _ c.place_from-end.ensures c.if-end-s.false
+    let at = a.self.at in
+    counted-out a.c a.s.now at (at + c.before-n.result) (ap (λ (n : ℕ). at + n) (rw (to_the_end a.s.now at) at c.before-n.ensures)) (omega (arith, c.if-n-s.false))
