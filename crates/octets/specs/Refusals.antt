@@ -9,8 +9,8 @@ use Rattle.octets.specs.Paper.Paper.{accepts, refuses}
 use Rattle.octets.specs.Reader.{Outcome}
 use Rattle.octets.specs.Reader.Outcome.{read, fault}
 
--- Those that a reading tree or a chain gives are numbers here: a tree says `refuse UnknownBlockCode`, and `paper_fault` tells it. In the place of document 01's 2,
--- malformed, stand 16, cut short, and 17, wrong mark (request 3 of document 02).
+-- The numbers of those that a reading tree or a chain gives: a tree says `refuse UnknownBlockCode`, and `paper_fault` tells it by its number. In the place of document
+-- 01's 2, malformed, stand 16, cut short, and 17, wrong mark (request 3 of document 02).
 abbrev pub compressed_file_not_supported : ℕ
 compressed_file_not_supported = 1
 
