@@ -129,6 +129,20 @@ function matter(  k, n, i, was, x) {
     } while (needed != was)
 }
 
+# The locals whose values are stored where a reference leads, and those that such ones are made of.
+function stored(  k, n, i, was, x) {
+    kept = ""
+    do {
+        was = kept
+        for (k = 1; k <= many; k++) {
+            x = statement[k]
+            if (head[x] != "assign" || !(through(kid[x, 1]) || has(kept, base(kid[x, 1])))) continue
+            n = places(kid[x, 2])
+            for (i = 1; i <= n; i++) if (!lent[i]) kept = with(kept, base(place[i]))
+        }
+    } while (kept != was)
+}
+
 function callee(x) { return head[kid[kid[kid[x, 1], 1], 1]] }
 function argument(x, n,  a) {
     for (a = kid[x, 2]; n > 1 && head[a] == "lcons"; a = kid[a, 2]) n--
@@ -137,8 +151,8 @@ function argument(x, n,  a) {
 # Whether a call is one of the kit's functions that loop ("loops"), or that write text ("formats").
 function library(x, word) { return head[x] == "call" && head[kid[kid[x, 1], 1]] == "kit" && head[kid[kid[kid[x, 1], 1], 2]] == word }
 
-# What a function does with elements of its parameter j at places worked out from its parameter g: 1 where it reads them for something, 2 where it writes them, itself or by a
-# function that it calls, of which the same was worked out before.
+# What a function does with elements of its parameter j at places worked out from its parameter g: 1 where it reads them for something, 2 where it writes them, or reads them
+# and stores what was read, itself or by a function that it calls, of which the same was worked out before.
 function takes(j, g,  into, by, was, k, x, p, does) {
     into = " " j " "; by = " " g " "
     do {
@@ -157,7 +171,10 @@ function takes(j, g,  into, by, was, k, x, p, does) {
         if (head[x] == "assign") {
             p = kid[x, 1]
             if (in_element(p) && has(into, base(p)) && has(by, base(p))) return 2
-            if (reads_element(kid[x, 2], into, by) && has(needed, base(p))) does = 1
+            if (reads_element(kid[x, 2], into, by)) {
+                if (through(p) || has(kept, base(p))) return 2
+                if (has(needed, base(p))) does = 1
+            }
         } else if (head[x] == "call") {
             was = handed(x, into, by)
             if (was == 2) return 2
@@ -404,6 +421,7 @@ END {
         many = loops = 0
         statements(kid[f, 5])
         matter()
+        stored()
         ours = !(order[o] in over_slices || order[o] in over_iterator)
         if (ours) for (j = 1; j <= params; j++) for (g = 1; g <= params; g++) taking[order[o], j, g] = takes(j, g)
         for (k = 1; k <= many; k++) {

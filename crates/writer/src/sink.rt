@@ -1,5 +1,6 @@
 // A lent output that is written from its front on. No byte of it is read.
 ghost use Rattle.std.specs.Prelude.{◌≡◌, ◌+◌, ◌%◌, ◌++◌, ◌≤◌, [], ◌∷◌, length};
+ghost use Rattle.octets.specs.Helpers.{put};
 ghost use Rattle.octets.specs.Number.{bytes_of};
 ghost use Rattle.octets.specs.PointerSize.{pointer_bytes};
 ghost use Rattle.header.specs.Header.{header_length};
@@ -48,15 +49,24 @@ fn digit(n: u64) -> u8
     b'0' + (n % 10) as u8
 }
 
+// These bytes from a place on, one after another: `copy_from_slice` would call the C library's memmove, which whoever links the library need not have.
+fn store(out: &mut [u8], at: usize, part: &[u8])
+    requires { at + length part.now ≤ length out.old }
+    ensures { out.new ≡ put out.old at part.now }
+{
+    for i in 0..part.len() {
+        out[at + i] = part[i];
+    }
+}
+
 impl Sink<'_> {
     // These bytes.
     pub(crate) fn bytes(&mut self, part: &[u8])
         requires { HasRoom self.old (length part.now) }
         ensures { Stores self.old (length part.now) part.now self.new }
     {
-        let end = self.at + part.len();
-        self.out[self.at..end].copy_from_slice(part);
-        self.at = end;
+        store(self.out, self.at, part);
+        self.at += part.len();
     }
 
     // A number in four bytes, and in eight. What the bytes have no room for is left out.
