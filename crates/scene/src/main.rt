@@ -4,7 +4,7 @@
 
 mod catalogue;
 
-ghost use Rattle.std.specs.Prelude.{◌*◌, ◌^◌, ◌<◌};
+ghost use Rattle.std.specs.Prelude.{◌*◌, ◌^◌, ◌<◌, ◌≤◌, length};
 
 use blend::blend::{BlendError, RawBlend, blend};
 use block::Row;
@@ -420,7 +420,9 @@ fn addresses_file(rt: &impl Print) {
 }
 
 // Reads until the buffer is full, the file ends or a read fails; what there is then. A loop, since what std has for it tries a read again that was interrupted.
-fn read_full<'a, R: io::Read + Drop>(mut file: R, buffer: &'a mut [u8]) -> &'a [u8] {
+fn read_full<'a, R: io::Read + Drop>(mut file: R, buffer: &'a mut [u8]) -> &'a [u8]
+    ensures { length result.now ≤ length buffer.old }
+{
     let mut n = 0;
     while n < buffer.len() {
         match file.read(&mut buffer[n..]) {

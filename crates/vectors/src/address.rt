@@ -1,14 +1,14 @@
 // An address, 8 bytes in little order, looked for in the file after it; and every row's code.
-use crate::Output;
 use crate::file::{NUMBERS, refused_line};
+use crate::out::Output;
 use blend::blend::blend;
 use block::Row;
 use octets::Refusal;
 use runtime::runtime::{Pointer, code, get_ptr};
-use std::io;
-use std::io::Write;
+use std::fmt;
+use std::fmt::Write;
 
-fn code_lines(out: &mut Output, table: &[u64], rows: usize) -> io::Result<()> {
+fn code_lines(out: &mut Output, table: &[u64], rows: usize) -> fmt::Result {
     let (all, _) = table.as_chunks::<{ Row::NUMBERS }>();
     for row in all.iter().take(rows) {
         match code(row[Row::CODE]) {
@@ -19,7 +19,7 @@ fn code_lines(out: &mut Output, table: &[u64], rows: usize) -> io::Result<()> {
     Ok(())
 }
 
-fn pointer_line(out: &mut Output, found: Result<Pointer, Refusal>) -> io::Result<()> {
+fn pointer_line(out: &mut Output, found: Result<Pointer, Refusal>) -> fmt::Result {
     match found {
         Ok(Pointer::Null) => writeln!(out, "null"),
         Ok(Pointer::Block(row)) => writeln!(out, "found {row}"),
@@ -28,7 +28,7 @@ fn pointer_line(out: &mut Output, found: Result<Pointer, Refusal>) -> io::Result
     }
 }
 
-fn search(out: &mut Output, file: &[u8], address: u64) -> io::Result<()> {
+fn search(out: &mut Output, file: &[u8], address: u64) -> fmt::Result {
     let mut table = [0; NUMBERS];
     match blend(file, &mut table) {
         Ok(b) => {
@@ -39,7 +39,7 @@ fn search(out: &mut Output, file: &[u8], address: u64) -> io::Result<()> {
     }
 }
 
-pub fn answer(out: &mut Output, input: &[u8]) -> io::Result<()> {
+pub fn answer(out: &mut Output, input: &[u8]) -> fmt::Result {
     match input.split_first_chunk::<8>() {
         Some((address, file)) => search(out, file, u64::from_le_bytes(*address)),
         None => writeln!(out, "bad-input"),

@@ -1,11 +1,12 @@
 // Catalogues: the counts, and a line for each row of the four tables.
 ghost use Rattle.std.specs.Prelude.{◌<◌};
 
-use crate::{Output, words};
+use crate::out::Output;
+use crate::words;
 use dna::dna::{DnaCounts, DnaError, dna, dna_counts};
 use octets::{Endianness, Refusal};
-use std::io::Write;
-use std::{fmt, io};
+use std::fmt;
+use std::fmt::Write;
 
 // A name's bytes, by its place in the payload.
 #[derive(Clone, Copy)]
@@ -21,49 +22,41 @@ impl Name<'_> {
             .get(self.from as usize..)?
             .get(..self.len as usize)
     }
-}
 
-// Its length, and its bytes in hexadecimal.
-impl fmt::Display for Name<'_> {
-    fn fmt<W: fmt::Write>(&self, f: &mut fmt::Formatter<W>) -> fmt::Result {
-        write!(f, "{}", self.len)?;
+    // The end of a line: its length, and its bytes in hexadecimal.
+    fn ends_line(&self, out: &mut Output) -> fmt::Result {
+        write!(out, "{}", self.len)?;
         let Some(bytes) = self.bytes() else {
-            return write!(f, " outside");
+            return writeln!(out, " outside");
         };
         if !bytes.is_empty() {
-            write!(f, " ")?;
+            write!(out, " ")?;
         }
-        for b in bytes {
-            write!(f, "{b:02x}")?;
-        }
-        Ok(())
+        out.hex(bytes)?;
+        writeln!(out)
     }
 }
 
-fn name_lines(out: &mut Output, payload: &[u8], table: &[u64], rows: u64) -> io::Result<()> {
+fn name_lines(out: &mut Output, payload: &[u8], table: &[u64], rows: u64) -> fmt::Result {
     let (all, _) = table.as_chunks::<2>();
     for &[from, len] in all.iter().take(rows as usize) {
-        writeln!(out, "name {}", Name { payload, from, len })?;
+        write!(out, "name ")?;
+        Name { payload, from, len }.ends_line(out)?;
     }
     Ok(())
 }
 
-fn type_lines(out: &mut Output, payload: &[u8], table: &[u64], rows: u64) -> io::Result<()> {
+fn type_lines(out: &mut Output, payload: &[u8], table: &[u64], rows: u64) -> fmt::Result {
     let (all, _) = table.as_chunks::<3>();
     for &[from, len, size] in all.iter().take(rows as usize) {
-        writeln!(out, "type {size} {}", Name { payload, from, len })?;
+        write!(out, "type {size} ")?;
+        Name { payload, from, len }.ends_line(out)?;
     }
     Ok(())
 }
 
 // The first rows of a table, each after the word.
-fn row_lines(
-    out: &mut Output,
-    word: &str,
-    table: &[u64],
-    per_row: usize,
-    rows: u64,
-) -> io::Result<()>
+fn row_lines(out: &mut Output, word: &str, table: &[u64], per_row: usize, rows: u64) -> fmt::Result
     requires { 0 < per_row }
 {
     for row in table.chunks_exact(per_row).take(rows as usize) {
@@ -75,12 +68,7 @@ fn row_lines(
 }
 
 // The counts and the place after the last struct.
-fn counts_line(
-    out: &mut Output,
-    payload: &[u8],
-    order: Endianness,
-    n: DnaCounts,
-) -> io::Result<()> {
+fn counts_line(out: &mut Output, payload: &[u8], order: Endianness, n: DnaCounts) -> fmt::Result {
     write!(
         out,
         "dna {} {} {} {} ",
@@ -97,7 +85,7 @@ fn answered<const NAMES: usize, const TYPES: usize, const STRUCTS: usize, const 
     out: &mut Output,
     payload: &[u8],
     order: Endianness,
-) -> io::Result<bool>
+) -> Result<bool, fmt::Error>
     requires { (NAMES < 65536) × (TYPES < 65536) × (STRUCTS < 65536) × (FIELDS < 65536) }
 {
     let mut names = [0; NAMES];
@@ -126,7 +114,7 @@ fn answered<const NAMES: usize, const TYPES: usize, const STRUCTS: usize, const 
 }
 
 // Most catalogues are small, and so are the tables that are made for each; then with tables for the catalogue of a real scene.
-pub fn answer(out: &mut Output, payload: &[u8], order: Endianness) -> io::Result<()> {
+pub fn answer(out: &mut Output, payload: &[u8], order: Endianness) -> fmt::Result {
     if answered::<128, 192, 192, 256>(out, payload, order)? {
         return Ok(());
     }

@@ -1,12 +1,13 @@
 // Declarators.
-use crate::{Output, words};
+use crate::out::Output;
+use crate::words;
 use field::field::{Declarator, FieldError, FieldInfo, fn_pointer, parse_field};
 use octets::Refusal;
-use std::io;
-use std::io::Write;
+use std::fmt;
+use std::fmt::Write;
 
 // In a few words. The dimensions come after them.
-fn short(out: &mut Output, d: Declarator) -> io::Result<()> {
+fn short(out: &mut Output, d: Declarator) -> fmt::Result {
     let (at, n, rest) = (d.name.at, d.name.len, d.rest.at);
     match d.kind {
         FieldInfo::Value => write!(out, "value {at} {n} {rest}"),
@@ -29,7 +30,7 @@ fn short(out: &mut Output, d: Declarator) -> io::Result<()> {
 }
 
 // What it is, and its places.
-fn long_words(out: &mut Output, word: &str, d: Declarator) -> io::Result<()> {
+fn long_words(out: &mut Output, word: &str, d: Declarator) -> fmt::Result {
     write!(
         out,
         "{word} name {} {} rest {} {}",
@@ -38,7 +39,7 @@ fn long_words(out: &mut Output, word: &str, d: Declarator) -> io::Result<()> {
 }
 
 // In whole words.
-pub fn long(out: &mut Output, d: Declarator) -> io::Result<()> {
+pub fn long(out: &mut Output, d: Declarator) -> fmt::Result {
     match d.kind {
         FieldInfo::Value => long_words(out, "value", d),
         FieldInfo::ValueArray { len, dimensions } => {
@@ -66,7 +67,7 @@ pub fn long(out: &mut Output, d: Declarator) -> io::Result<()> {
     }
 }
 
-pub fn refused(out: &mut Output, e: FieldError) -> io::Result<()> {
+pub fn refused(out: &mut Output, e: FieldError) -> fmt::Result {
     match e {
         FieldError::Refusal(r) => write!(out, "refused {r}"),
         FieldError::DimensionTableTooShort(groups) => write!(
@@ -87,7 +88,7 @@ fn dimensions(kind: FieldInfo) -> usize {
     }
 }
 
-pub fn answer(out: &mut Output, name: &[u8]) -> io::Result<()> {
+pub fn answer(out: &mut Output, name: &[u8]) -> fmt::Result {
     // An array, lent: its length is part of the answers.
     let mut table = [0; 64];
     match parse_field(name, &mut table) {
@@ -101,7 +102,7 @@ pub fn answer(out: &mut Output, name: &[u8]) -> io::Result<()> {
 }
 
 // A name as a function pointer.
-pub fn function_answer(out: &mut Output, name: &[u8]) -> io::Result<()> {
+pub fn function_answer(out: &mut Output, name: &[u8]) -> fmt::Result {
     match fn_pointer(name) {
         Ok(d) => writeln!(
             out,

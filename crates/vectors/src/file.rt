@@ -1,12 +1,12 @@
 // Whole files: the header, the rows with what their views show, and a walk that has to find the same.
-use crate::Output;
+use crate::out::Output;
 use blend::blend::{BlendError, RawBlend, blend};
 use block::Row;
 use header::blend::header;
 use octets::{Fault, Refusal};
 use runtime::runtime::{view, view_part};
-use std::io;
-use std::io::Write;
+use std::fmt;
+use std::fmt::Write;
 use walker::{Place, Step};
 
 // The table that is lent has 128 rows; a file of more is answered by refusal 7.
@@ -22,7 +22,7 @@ fn hash(bytes: &[u8]) -> u64 {
 }
 
 // Each row, with the hash of what its view shows.
-fn row_lines(out: &mut Output, file: &[u8], table: &[u64], rows: usize) -> io::Result<()> {
+fn row_lines(out: &mut Output, file: &[u8], table: &[u64], rows: usize) -> fmt::Result {
     let (all, _) = table.as_chunks::<{ Row::NUMBERS }>();
     for (row, numbers) in all.iter().take(rows).enumerate() {
         let [code, address, index, count, at, payload, len] = numbers;
@@ -38,7 +38,7 @@ fn row_lines(out: &mut Output, file: &[u8], table: &[u64], rows: usize) -> io::R
     Ok(())
 }
 
-fn read_lines(out: &mut Output, file: &[u8], table: &[u64], b: RawBlend) -> io::Result<()> {
+fn read_lines(out: &mut Output, file: &[u8], table: &[u64], b: RawBlend) -> fmt::Result {
     write!(out, "file {} {} {} ", b.header, b.rows, b.end)?;
     let n = b.dna;
     writeln!(out, "{} {} {} {}", n.names, n.types, n.structs, n.fields)?;
@@ -101,7 +101,7 @@ fn walk_is_refused(file: &[u8], fault: Fault) -> bool {
     false
 }
 
-fn walk_line(out: &mut Output, as_read: bool) -> io::Result<()> {
+fn walk_line(out: &mut Output, as_read: bool) -> fmt::Result {
     if as_read {
         Ok(())
     } else {
@@ -109,7 +109,7 @@ fn walk_line(out: &mut Output, as_read: bool) -> io::Result<()> {
     }
 }
 
-pub fn refused_line(out: &mut Output, e: BlendError) -> io::Result<()> {
+pub fn refused_line(out: &mut Output, e: BlendError) -> fmt::Result {
     match e {
         BlendError::Fault(f) => writeln!(out, "refused {f}"),
         BlendError::TableTooShort(rows) => {
@@ -118,7 +118,7 @@ pub fn refused_line(out: &mut Output, e: BlendError) -> io::Result<()> {
     }
 }
 
-pub fn answer(out: &mut Output, file: &[u8]) -> io::Result<()> {
+pub fn answer(out: &mut Output, file: &[u8]) -> fmt::Result {
     let mut table = [0; NUMBERS];
     match blend(file, &mut table) {
         Ok(b) => {
@@ -136,7 +136,7 @@ pub fn answer(out: &mut Output, file: &[u8]) -> io::Result<()> {
 }
 
 // A header by itself.
-pub fn header_answer(out: &mut Output, bytes: &[u8]) -> io::Result<()> {
+pub fn header_answer(out: &mut Output, bytes: &[u8]) -> fmt::Result {
     match header(bytes) {
         Ok((h, length)) => writeln!(out, "header {h} {length}"),
         Err(f) => writeln!(out, "refused {f}"),

@@ -27,25 +27,22 @@ mod catalogue;
 mod declarator;
 mod examples;
 mod file;
+mod out;
 mod values;
 
+ghost use Rattle.std.specs.Prelude.{◌≤◌, length};
+
 use octets::Endianness;
-use std::env::Env;
-use std::io;
-use std::io::{BufReader, BufWriter, Read, Stdout, Write};
-use std::rt::Files;
-
-// Standard output, by way of a buffer.
-type Output = BufWriter<Stdout>;
-
-// How much of the input, and of the output, is held.
-const HELD: usize = 65536;
+use out::Output;
+use std::fmt;
+use std::fmt::Write;
+use std::io::Read;
 
 // How long an input may be.
 const LONGEST: usize = 131072;
 
 // The first so many numbers, each after a space.
-fn words(out: &mut Output, numbers: &[u64], count: usize) -> io::Result<()> {
+fn words(out: &mut Output, numbers: &[u64], count: usize) -> fmt::Result {
     for n in numbers.iter().take(count) {
         write!(out, " {n}")?;
     }
@@ -53,7 +50,7 @@ fn words(out: &mut Output, numbers: &[u64], count: usize) -> io::Result<()> {
 }
 
 // The byte is matched itself: an enum of the kinds would be this list a second time.
-fn answer(out: &mut Output, kind: u8, bytes: &[u8]) -> io::Result<()> {
+fn answer(out: &mut Output, kind: u8, bytes: &[u8]) -> fmt::Result {
     match kind {
         b'F' => file::answer(out, bytes),
         b'H' => file::header_answer(out, bytes),
@@ -64,7 +61,7 @@ fn answer(out: &mut Output, kind: u8, bytes: &[u8]) -> io::Result<()> {
         b'P' => values::answer(out, bytes),
         b'N' => values::names_answer(out),
         b'A' => address::answer(out, bytes),
-        _ => writeln!(out, "bad-kind"),
+        _ => out.texts(&["bad-kind\n"]),
     }
 }
 
@@ -75,12 +72,32 @@ enum Unread {
     Cut,
 }
 
-// Reads past so many bytes. Whether they were there.
-fn skip(input: &mut impl Read, len: u64) -> bool {
-    match io::copy(&mut input.by_ref().take(len), &mut io::sink()) {
-        Ok(n) => n == len,
-        Err(_) => false,
+// Reads until the buffer is full, the input ends or a read fails; what there is then. A loop, since what std has for it tries a read again that was interrupted.
+fn read_full<'a>(input: &mut impl Read, buffer: &'a mut [u8]) -> &'a [u8]
+    ensures { length result.now ≤ length buffer.old }
+{
+    let mut n = 0;
+    while n < buffer.len() {
+        match input.read(&mut buffer[n..]) {
+            Ok(0) | Err(_) => break,
+            Ok(more) => n += more,
+        }
     }
+    &buffer[..n]
+}
+
+// Reads past so many bytes. Whether they were there.
+fn skip(input: &mut impl Read, buffer: &mut [u8], len: usize) -> bool {
+    let mut left = len;
+    while 0 < left {
+        let most = left.min(buffer.len());
+        let got = read_full(input, &mut buffer[..most]).len();
+        if got == 0 {
+            return false;
+        }
+        left -= got;
+    }
+    true
 }
 
 // The next record: its kind and its input, which is read to the start of the buffer; nothing where the batch ends.
@@ -88,23 +105,25 @@ fn read_record<'a>(
     input: &mut impl Read,
     buffer: &'a mut [u8],
 ) -> Result<Option<(u8, &'a [u8])>, Unread> {
-    let mut kind = [0; 1];
-    if input.read_exact(&mut kind).is_err() {
-        return Ok(None);
-    }
-    let mut len = [0; 4];
-    input.read_exact(&mut len).map_err(|_| Unread::Cut)?;
-    let len = u32::from_le_bytes(len);
-    let Some(bytes) = buffer.get_mut(..len as usize) else {
-        let there = skip(input, u64::from(len));
-        return Err(if there { Unread::TooLong } else { Unread::Cut });
+    let mut head = [0; 5];
+    let (kind, len) = match read_full(input, &mut head) {
+        [] => return Ok(None),
+        [kind, a, b, c, d] => (*kind, u32::from_le_bytes([*a, *b, *c, *d]) as usize),
+        _ => return Err(Unread::Cut),
     };
-    input.read_exact(bytes).map_err(|_| Unread::Cut)?;
-    Ok(Some((kind[0], bytes)))
+    if buffer.len() < len {
+        let there = skip(input, buffer, len);
+        return Err(if there { Unread::TooLong } else { Unread::Cut });
+    }
+    let bytes = read_full(input, &mut buffer[..len]);
+    if bytes.len() < len {
+        return Err(Unread::Cut);
+    }
+    Ok(Some((kind, bytes)))
 }
 
 // All records; the number of turns only bounds the loop.
-fn batch(out: &mut Output, input: &mut impl Read, buffer: &mut [u8]) -> io::Result<()> {
+fn batch(out: &mut Output, input: &mut impl Read, buffer: &mut [u8]) -> fmt::Result {
     for _ in 0..u64::MAX {
         match read_record(input, buffer) {
             Ok(Some((kind, bytes))) => answer(out, kind, bytes)?,
@@ -112,27 +131,16 @@ fn batch(out: &mut Output, input: &mut impl Read, buffer: &mut [u8]) -> io::Resu
             Err(Unread::TooLong) => writeln!(out, "too long")?,
             Err(Unread::Cut) => return writeln!(out, "cut"),
         }
-        writeln!(out, ".")?;
+        out.texts(&[".\n"])?;
     }
     Ok(())
 }
 
-fn answers(
-    out: &mut Output,
-    rt: &(impl Env + Files + Eprint + AllocGlobal),
-    input: &mut impl Read,
-    buffer: &mut [u8],
-) -> io::Result<()> {
-    examples::answer(out, rt)?;
-    batch(out, input, buffer)?;
-    out.flush()
-}
-
-fn main(rt: HostRuntime) -> io::Result<()> {
-    let mut out = BufWriter::with_capacity(rt.alloc(), HELD, rt.stdout())?;
-    let mut input = BufReader::with_capacity(rt.alloc(), HELD, rt.stdin())?;
+fn main(rt: HostRuntime) {
+    let mut out = Output::new(rt.stdout());
     let mut buffer = [0; LONGEST];
-    // Where the output is closed, the rest is not answered, and nothing is said of it.
-    let _ = answers(&mut out, &rt, &mut input, &mut buffer);
-    Ok(())
+    // Where a write failed, nothing is said of it, and the batch is left at its next answer.
+    let _ = examples::answer(&mut out, &rt, &mut buffer);
+    let _ = batch(&mut out, &mut rt.stdin(), &mut buffer);
+    let _ = out.flush();
 }

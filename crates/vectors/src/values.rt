@@ -1,5 +1,5 @@
 // Primitive values: a slice read as each kind, in both orders; and the kinds' names.
-use crate::Output;
+use crate::out::Output;
 use octets::{Endianness, Refusal};
 use primitive::primitive::{
     FloatRead, blender_name_char, blender_name_f32, blender_name_f64, blender_name_i8,
@@ -7,9 +7,8 @@ use primitive::primitive::{
     blender_name_u32, blender_name_u64, parse_char, parse_f32, parse_f64, parse_i8, parse_i16,
     parse_i32, parse_i64, parse_u8, parse_u16, parse_u32, parse_u64,
 };
-use std::fmt::Display;
-use std::io::Write;
-use std::{fmt, io};
+use std::fmt;
+use std::fmt::{Display, Write};
 
 // The bits of a float.
 #[derive(Clone, Copy)]
@@ -49,15 +48,21 @@ fn line<T: Display + Drop>(
     kind: &str,
     order: Endianness,
     value: Result<T, Refusal>,
-) -> io::Result<()> {
+) -> fmt::Result {
+    let order = match order {
+        Endianness::Little => " little ",
+        Endianness::Big => " big ",
+    };
+    out.texts(&[kind, order])?;
     match value {
-        Ok(v) => writeln!(out, "{kind} {order} {v}"),
-        Err(r) => writeln!(out, "{kind} {order} refused {r}"),
+        Ok(v) => write!(out, "{v}")?,
+        Err(r) => write!(out, "refused {r}")?,
     }
+    out.texts(&["\n"])
 }
 
 // A line for each kind, in this order.
-fn lines(out: &mut Output, s: &[u8], order: Endianness) -> io::Result<()> {
+fn lines(out: &mut Output, s: &[u8], order: Endianness) -> fmt::Result {
     line(out, "u8", order, parse_u8(s, order))?;
     line(out, "char", order, parse_char(s, order))?;
     line(out, "i8", order, parse_i8(s, order))?;
@@ -71,27 +76,27 @@ fn lines(out: &mut Output, s: &[u8], order: Endianness) -> io::Result<()> {
     line(out, "f64", order, f64_bits(s, order))
 }
 
-pub fn answer(out: &mut Output, s: &[u8]) -> io::Result<()> {
+pub fn answer(out: &mut Output, s: &[u8]) -> fmt::Result {
     lines(out, s, Endianness::Little)?;
     lines(out, s, Endianness::Big)
 }
 
 // The names of the kinds.
-pub fn names_answer(out: &mut Output) -> io::Result<()> {
+pub fn names_answer(out: &mut Output) -> fmt::Result {
     for (kind, name) in [
-        ("u8", blender_name_u8()),
-        ("char", blender_name_char()),
-        ("i8", blender_name_i8()),
-        ("u16", blender_name_u16()),
-        ("i16", blender_name_i16()),
-        ("u32", blender_name_u32()),
-        ("i32", blender_name_i32()),
-        ("u64", blender_name_u64()),
-        ("i64", blender_name_i64()),
-        ("f32", blender_name_f32()),
-        ("f64", blender_name_f64()),
+        ("u8 ", blender_name_u8()),
+        ("char ", blender_name_char()),
+        ("i8 ", blender_name_i8()),
+        ("u16 ", blender_name_u16()),
+        ("i16 ", blender_name_i16()),
+        ("u32 ", blender_name_u32()),
+        ("i32 ", blender_name_i32()),
+        ("u64 ", blender_name_u64()),
+        ("i64 ", blender_name_i64()),
+        ("f32 ", blender_name_f32()),
+        ("f64 ", blender_name_f64()),
     ] {
-        writeln!(out, "{kind} {name}")?;
+        out.texts(&[kind, name, "\n"])?;
     }
     Ok(())
 }
