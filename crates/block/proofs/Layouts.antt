@@ -219,7 +219,7 @@ module _ (h : Header) (s : List ℕ) (at : ℕ) where
               let c = number_moves e s w two n three (sym l) in
               omega (arith, m, a.0, b.0, c, q, length-parts f h.pointer_size)
 
-          module _ (z : n ≡ 0 → ⊥) (v : ℕ) (o : v ≡ last_width f) where
+          module _ (z : n ≡ 0 → ⊥) where
             told_so_far : BlockHeader
             told_so_far = tell address n after_first.0
 
@@ -227,12 +227,16 @@ module _ (h : Header) (s : List ℕ) (at : ℕ) where
             unfolding on-address told_so_far
             rest = sym (on-first ∙ number-on s two e w on-address n three l ∙ ap (λ (r : Reader BlockHeader). run r s three) (failed _ _ (ne_eqb _ _ z)))
 
-            pub rest-missing : (x : Fault) → ◌≡◌ {A = Outcome (Unit {0})} (fault x) (run (skip v (done tt)) s three) → fault x ≡ run (block_header h) s at
-            rest-missing x m = last_missing f p e told_so_far s three v o x m ∙ rest
+            pub rest-missing : (x : Fault) → ((p : ℕ) (e : Endianness) (b : BlockHeader) → fault x ≡ run (fields (last_two f p e) b) s three) → fault x ≡ run (block_header h) s at
+            rest-missing x m = m p e told_so_far ∙ rest
 
-            pub rest_cut : (next : ℕ) → ◌≡◌ {A = Outcome (Unit {0})} (read tt next) (run (skip v (done tt)) s three) → length s < at + block_header_length f h.pointer_size
-                → fault (Cut next) ≡ run (block_header h) s at
-            rest_cut next m y = last-passed f p e told_so_far s three v o next m (last-short y) ∙ rest
+            module _ (v : ℕ) (o : v ≡ last_width f) where
+              pub rest_stopped : (x : Fault) → ◌≡◌ {A = Outcome (Unit {0})} (fault x) (run (skip v (done tt)) s three) → fault x ≡ run (block_header h) s at
+              rest_stopped x m = rest-missing x (λ p e b. last_missing f p e b s three v o x m)
+
+              pub rest_cut : (next : ℕ) → ◌≡◌ {A = Outcome (Unit {0})} (read tt next) (run (skip v (done tt)) s three) → length s < at + block_header_length f h.pointer_size
+                  → fault (Cut next) ≡ run (block_header h) s at
+              rest_cut next m y = rest-missing (Cut next) (λ p e b. last-passed f p e b s three v o next m (last-short y))
 
 -- how far a block header goes
 pub tested_reads : {A : Type 0} (f : Field) (n : ℕ) (r : Reader A) (s : List ℕ) (at : ℕ) (a : A) (next : ℕ) → run (tested f n r) s at ≡ read a next → run r s at ≡ read a next

@@ -14,14 +14,17 @@ use Rattle.octets.specs.declared.Fault.TheVariants.{Cut, Mark}
 use Rattle.octets.specs.Paper.{Paper}
 use Rattle.octets.specs.Reader.{Outcome}
 use Rattle.octets.specs.Reader.Outcome.{read, fault}
-use Rattle.octets.specs.Refusals.{refusal_of}
-use Rattle.octets.proofs.Numbers.{number-some, number-not_seven}
+use Rattle.octets.specs.Refusals.{refusal_of, paper_fault}
+use Rattle.octets.proofs.Lossless.{whole-fault}
 use Rattle.octets.proofs.Tests.{held, failed}
+use Rattle.header.proofs.Refusing.{Told}
+use Rattle.blend.proofs.Lossless.{no_short}
 use Rattle.dna.specs.declared.dna.DnaCounts.{DnaCounts}
 use Rattle.blend.specs.declared.blend.RawBlend.{RawBlend}
 use Rattle.blend.specs.declared.blend.BlendError.{BlendError}
 use Rattle.blend.specs.Calls.{Answers}
-use Rattle.blend.specs.Chain.{File, file_by, answer_for, read_as, paper_blend}
+use Rattle.blend.specs.Chain.{Chain, File, file_by, answer_for, read_as, paper_blend}
+use Rattle.blend.proofs.Refusing.{header_told_lem, file-told}
 use Rattle.block.specs.Rows.{per_row}
 use Rattle.header.specs.Header.{header_bytes, order}
 use Rattle.exports.specs.declared.BlendRead.{BlendRead}
@@ -31,6 +34,7 @@ use Rattle.demands.specs.Answers.{rows_in}
 use Rattle.demands.specs.Cover.{Covered, EveryBlockExported}
 use Rattle.demands.specs.Unaltered.{Alike, Stays, NoOtherObjectExported}
 use Rattle.demands.proofs.Cover.{every-block}
+use Rattle.demands.proofs.Files.{filed}
 use Rattle.demands.proofs.Unaltered.{no_other_object}
 
 -- whatever the rules answer, some answer of `blend` is told so
@@ -50,16 +54,39 @@ answered (read f at) room = last f.chain.last
         fits true e = (Err (BlendError.TableTooShort rows), sym (held _ _ e))
         fits false e = (Ok (record { header = f.header; rows = rows; end = end; dna = n }), sym (failed _ _ e))
 
--- no fault has the number 0, nor the 7 of a table
-pub no_zero : (x : Fault) → refusal_of x ≡ 0 → ⊥
-no_zero (Cut at) e = omega arith
-no_zero (Mark at) e = omega arith
-no_zero (Fault.Refusal r) e = omega (arith, number-some r)
+-- no refusal of a file has the number 0, nor the 7 of a table
+pub no_zero : (x : Fault) → Told x → refusal_of x ≡ 0 → ⊥
+no_zero (Cut at) f e = omega arith
+no_zero (Mark at) f e = omega arith
+no_zero (Fault.Refusal r) f e = omega (arith, (f r refl).0)
 
-pub no_seven : (x : Fault) → refusal_of x ≡ 7 → ⊥
-no_seven (Cut at) e = omega arith
-no_seven (Mark at) e = omega arith
-no_seven (Fault.Refusal r) e = number-not_seven r e
+pub no_seven : (x : Fault) → Told x → refusal_of x ≡ 7 → ⊥
+no_seven (Cut at) f e = omega arith
+no_seven (Mark at) f e = omega arith
+no_seven (Fault.Refusal r) f e = omega (arith, (f r refl).1)
+
+-- what a reading stops with is what a tree or a chain gave
+pub stop_told : (s : List ℕ) (room : ℕ) (y : Fault) → paper_fault y ≡ read_as (file_by header_bytes s) room → Told y
+unfolding read_as
+stop_told s room y e = go (file_by header_bytes s) refl e
+  where
+    this : (x : Fault) → Told x → paper_fault y ≡ paper_fault x → Told y
+    this x f g = subst Told (whole-fault x y (sym g)) f
+
+    last : (f : File) (at : ℕ) → file_by header_bytes s ≡ read f at → (l : Outcome DnaCounts) → f.chain.last ≡ l → paper_fault y ≡ answer_for f.header (length f.chain.rows) room l → Told y
+    last f at t (fault x) u g = this x (file-told f.header s at x (sym (ap (λ (c : Chain). c.last) (filed header_bytes s f at t).chained) ∙ u)) g
+    last f at t (read n end) u g = fits (ltb room (length f.chain.rows)) refl
+      where
+        fits : (b : Bool) → ltb room (length f.chain.rows) ≡ b → Told y
+        fits true k = absurd (no_short (length f.chain.rows) y (sym (g ∙ held _ _ k)))
+        fits false k =
+            let q : paper_fault y ≡ paper_blend (Ok (record { header = f.header; rows = length f.chain.rows; end = end; dna = n })) = g ∙ failed _ _ k in
+            let z : ◌≡◌ {A = ℕ} 0 1 = cc in
+            absurd (omega arith)
+
+    go : (o : Outcome File) → file_by header_bytes s ≡ o → paper_fault y ≡ read_as o room → Told y
+    go (fault x) t g = this x (header_told_lem s x t) g
+    go (read f at) t g = last f at t f.chain.last refl g
 
 -- the answer of `blend` that an exported reading without a refusal tells
 pub record Read (s t t' : List ℕ) (r : BlendRead) : Type 0 where
@@ -74,7 +101,7 @@ read_by s t t' r w e = go (answered (file_by header_bytes s) (length t / per_row
     go (Ok b) k = record { answer = b; answers = (k, w.1); told = w.0 ∙ ap read_out (sym k) }
     go (Err (BlendError.Fault x)) k =
         let z : refusal_of x ≡ 0 = ap (λ (p : Paper). (read_out p).refusal) k ∙ ap (λ (q : BlendRead). q.refusal) (sym w.0) ∙ e in
-        absurd (no_zero x z)
+        absurd (no_zero x (stop_told s (length t / per_row) x k) z)
     go (Err (BlendError.TableTooShort n)) k =
         let z : ◌≡◌ {A = ℕ} 7 0 = ap (λ (p : Paper). (read_out p).refusal) k ∙ ap (λ (q : BlendRead). q.refusal) (sym w.0) ∙ e in
         absurd (omega arith)

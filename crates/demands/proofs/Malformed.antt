@@ -21,7 +21,8 @@ use Rattle.octets.proofs.Former.{fault-as_two, told_as-two, not_two, told_not_tw
 use Rattle.octets.proofs.Refusing.{given}
 use Rattle.octets.proofs.Tests.{held, failed}
 use Rattle.header.specs.declared.Header.{Header}
-use Rattle.header.specs.Header.{header_bytes, header_numbers, valued}
+use Rattle.header.specs.Header.{HeaderBytes, header_bytes, header_numbers, valued}
+use Rattle.header.proofs.Refusing.{Counts, Told, header-gives}
 use Rattle.dna.specs.Catalogue.{Dna, Rooms, catalogue, rooms, counts, count_numbers, counts_only, answer_for, read_as as tablesAs}
 use Rattle.dna.specs.declared.dna.DnaCounts.{DnaCounts}
 use Rattle.dna.proofs.Refusing.{catalogue-gives}
@@ -29,15 +30,17 @@ use Rattle.field.proofs.Functions.{function_as-two, function_not_two}
 use Rattle.blend.specs.declared.blend.Boundary.{Boundary}
 use Rattle.block.specs.Rows.{per_row, row_numbers}
 use Rattle.blend.specs.Blocks.{boundary_of}
-use Rattle.blend.specs.Chain.{File, file_by, read_as, answer_for as answer_of}
+use Rattle.blend.specs.Chain.{Chain, File, on_header, file_by, read_as, answer_for as answer_of}
+use Rattle.blend.proofs.Refusing.{boundary_told, header_told_lem, file-told}
 use Rattle.walker.specs.declared.Place.{Place}
 use Rattle.walker.specs.Walker.{Walked, end_mark, stands_for, step_over, step_by, on_header as walkOn}
 use Rattle.exports.specs.Exports.{order_of}
 use Rattle.demands.specs.Malformed.{AsBefore, WhereTwoWas, former_answer_for, former_read_as, former_tables_as, former_step_over, former_on_header, former_step_as}
+use Rattle.demands.proofs.Files.{filed}
 
--- a fault, and an answer that is no refusal
-early : (x : Fault) → AsBefore (paper_fault x) (former_fault x)
-early x = (fault-as_two x, not_two x)
+-- a fault that a file or a walk gives, and an answer that is no refusal
+early : (x : Fault) → Told x → AsBefore (paper_fault x) (former_fault x)
+early x f = (fault-as_two x (λ r e. omega (arith, (f r e).1)), not_two x (λ r e. (f r e).2))
 
 accepted : (k : ℕ) (vs : List ℕ) → AsBefore (accepts k vs) (accepts k vs)
 accepted k vs = (refl, λ ws e. let z : ◌≡◌ {A = ℕ} 0 1 = cc in omega arith)
@@ -46,13 +49,23 @@ by_paths : (p q f g : Paper) → p ≡ q → f ≡ g → AsBefore q g → AsBefo
 by_paths p q f g e d w = (ap as_two e ∙ w.0 ∙ sym d, λ vs k. w.1 vs (sym e ∙ k))
 
 -- a header, and what follows it
-module _ (s : List ℕ) where
-  header-two : AsBefore (told header_numbers (valued (run header_bytes s 0))) (former_told header_numbers (valued (run header_bytes s 0)))
-  header-two = (told_as-two header_numbers (valued (run header_bytes s 0)), told_not_two header_numbers (valued (run header_bytes s 0)))
+valued-fault : (o : Outcome HeaderBytes) (r : Refusal) → valued o ≡ fault (Fault.Refusal r) → o ≡ fault (Fault.Refusal r)
+valued-fault (read b next) r e = cc
+valued-fault (fault x) r e = cc
 
-  answer-two : (h : Header) (rows room : ℕ) (l : Outcome DnaCounts) → AsBefore (answer_of h rows room l) (former_answer_for h rows room l)
-  answer-two h rows room (fault x) = early x
-  answer-two h rows room (read n end) = go (ltb room rows)
+module _ (s : List ℕ) where
+  gave : (r : Refusal) → valued (run header_bytes s 0) ≡ fault (Fault.Refusal r) → Counts r
+  gave r e = given Counts header_bytes (header-gives Counts (omega arith, omega arith, λ o. omega arith)) s 0 r (valued-fault (run header_bytes s 0) r e)
+
+  header-two : AsBefore (told header_numbers (valued (run header_bytes s 0))) (former_told header_numbers (valued (run header_bytes s 0)))
+  header-two = (
+    told_as-two header_numbers (valued (run header_bytes s 0)) (λ r e. omega (arith, (gave r e).1)),
+    told_not_two header_numbers (valued (run header_bytes s 0)) (λ r e. (gave r e).2),
+  )
+
+  answer-two : (h : Header) (rows room : ℕ) (l : Outcome DnaCounts) → ((x : Fault) → l ≡ fault x → Told x) → AsBefore (answer_of h rows room l) (former_answer_for h rows room l)
+  answer-two h rows room (fault x) f = early x (f x refl)
+  answer-two h rows room (read n end) f = go (ltb room rows)
     where
       go : (b : Bool)
           → AsBefore (elim b as (λ (c : Bool). Paper) [ true ↦ refuses 7 (rows ∷ []) | false ↦ accepts 0 (header_numbers h ++ (rows ∷ end ∷ count_numbers n)) ])
@@ -62,11 +75,12 @@ module _ (s : List ℕ) where
 
   read_two_lem : (room : ℕ) → AsBefore (read_as (file_by header_bytes s) room) (former_read_as (file_by header_bytes s) room)
   unfolding read_as
-  read_two_lem room = go (file_by header_bytes s)
+  read_two_lem room = go (file_by header_bytes s) refl
     where
-      go : (o : Outcome File) → AsBefore (read_as o room) (former_read_as o room)
-      go (fault x) = early x
-      go (read f at) = answer-two f.header (length f.chain.rows) room f.chain.last
+      go : (o : Outcome File) → file_by header_bytes s ≡ o → AsBefore (read_as o room) (former_read_as o room)
+      go (fault x) t = early x (header_told_lem s x t)
+      go (read f at) t =
+          answer-two f.header (length f.chain.rows) room f.chain.last (λ x e. file-told f.header s at x (sym (ap (λ (c : Chain). c.last) (filed header_bytes s f at t).chained) ∙ e))
 
 -- a step of a walk
 mark-two : (b : Bool) (next : ℕ) → AsBefore (end_mark b next) (end_mark b next)
@@ -74,22 +88,25 @@ mark-two true next = accepted 1 (next ∷ [])
 mark-two false next = (refl, λ vs e. let z : ◌≡◌ {A = ℕ} 6 2 = cc in omega arith)
 
 module _ (s : List ℕ) (p : Place) where
-  over-two : (b : Place) (d : Result Boundary Fault) → AsBefore (step_over p b d).answer (former_step_over b d)
-  over-two b (Ok Boundary.EndMark) = mark-two b.dna _
-  over-two b (Ok (Boundary.Block r l next)) = accepted 0 (row_numbers r)
-  over-two b (Err x) = early x
+  over-two : (b : Place) (d : Result Boundary Fault) → ((x : Fault) → d ≡ Err x → Told x) → AsBefore (step_over p b d).answer (former_step_over b d)
+  over-two b (Ok Boundary.EndMark) f = mark-two b.dna _
+  over-two b (Ok (Boundary.Block r l next)) f = accepted 0 (row_numbers r)
+  over-two b (Err x) f = early x (f x refl)
 
-  header-step : (o : Outcome Header) → AsBefore (walkOn s p o).answer (former_on_header s p o)
-  header-step (read h first) = over-two (stands_for first p) (boundary_of h s (stands_for first p).at)
-  header-step (fault x) = early x
+  header-step : (o : Outcome Header) → ((x : Fault) → o ≡ fault x → Told x) → AsBefore (walkOn s p o).answer (former_on_header s p o)
+  header-step (read h first) f = over-two (stands_for first p) (boundary_of h s (stands_for first p).at) (λ x e. boundary_told h s (stands_for first p).at x e)
+  header-step (fault x) f = early x (f x refl)
 
   step-two : AsBefore (step_by header_bytes s p).answer (former_step_as s p)
   unfolding step_by
   step-two = go (ltb (length s) p.at) refl
     where
+      started : (x : Fault) → valued (run header_bytes s 0) ≡ fault x → Told x
+      started x e = header_told_lem s x (ap (on_header s) e)
+
       go : (b : Bool) → ltb (length s) p.at ≡ b → AsBefore (step_by header_bytes s p).answer (former_step_as s p)
       go true t = by_paths _ (refuses 13 []) _ (refuses 13 []) (ap (λ (w : Walked). w.answer) (held _ _ t)) (held _ _ t) (refl, λ vs e. let z : ◌≡◌ {A = ℕ} 13 2 = cc in omega arith)
-      go false t = by_paths _ _ _ _ (ap (λ (w : Walked). w.answer) (failed _ _ t)) (failed _ _ t) (header-step (valued (run header_bytes s 0)))
+      go false t = by_paths _ _ _ _ (ap (λ (w : Walked). w.answer) (failed _ _ t)) (failed _ _ t) (header-step (valued (run header_bytes s 0)) started)
 
 -- a catalogue: its tree has no refusal of its own
 short-two : (n : DnaCounts) (r : Rooms) → AsBefore (answer_for n r) (answer_for n r)
@@ -122,18 +139,24 @@ short-two n r = go (ltb r.names n.names) (ltb r.types n.types) (ltb r.structs n.
 tables_two : (o : Outcome Dna) (r : Rooms) → ((q : Refusal) → o ≡ fault (Fault.Refusal q) → ⊥) → AsBefore (tablesAs o r) (former_tables_as o r)
 unfolding tablesAs
 tables_two (read d next) r f = short-two (counts d) r
-tables_two (fault (Cut at)) r f = (refl, not_two (Cut at))
-tables_two (fault (Mark at)) r f = (refl, not_two (Mark at))
+tables_two (fault (Cut at)) r f = (refl, not_two (Cut at) (λ q e z. f q (ap fault e)))
+tables_two (fault (Mark at)) r f = (refl, not_two (Mark at) (λ q e z. f q (ap fault e)))
 tables_two (fault (Fault.Refusal q)) r f = absurd (f q refl)
 
 module _ (e : Endianness) (s : List ℕ) where
   none : (q : Refusal) → run (catalogue e) s 0 ≡ fault (Fault.Refusal q) → ⊥
   none q g = given (λ m. ⊥) (catalogue e) (catalogue-gives (λ m. ⊥) e) s 0 q g
 
+  counts-fault : (o : Outcome Dna) (q : Refusal) → counts_only o ≡ fault (Fault.Refusal q) → o ≡ fault (Fault.Refusal q)
+  counts-fault (read d next) q g = cc
+  counts-fault (fault x) q g = cc
+
   counts-two : AsBefore (told count_numbers (counts_only (run (catalogue e) s 0))) (former_told count_numbers (counts_only (run (catalogue e) s 0)))
   counts-two =
-      let o = run (catalogue e) s 0 in
-      (told_as-two count_numbers (counts_only o), told_not_two count_numbers (counts_only o))
+      let o = run (catalogue e) s 0 in (
+        told_as-two count_numbers (counts_only o) (λ q g. absurd (none q (counts-fault o q g))),
+        told_not_two count_numbers (counts_only o) (λ q g z. none q (counts-fault o q g)),
+      )
 
 pub where_two_was : WhereTwoWas
 where_two_was =

@@ -34,7 +34,7 @@ use Rattle.exports.specs.Calls.{blend_read, blend_step}
 use Rattle.exports.specs.Exports.{dna_of, dna_number, place_from, step_out, read_out}
 use Rattle.demands.specs.Answers.{rows_in}
 use Rattle.demands.specs.Malformed.{StepWalk, StepsExported, PapersLoseNothing}
-use Rattle.demands.proofs.Exported.{no_seven, answered, read_by}
+use Rattle.demands.proofs.Exported.{no_seven, stop_told, answered, read_by}
 use Rattle.demands.proofs.Sentences.{walks_as_read}
 
 dna-back : (b : Bool) → dna_of (dna_number b) ≡ b
@@ -87,7 +87,7 @@ steps_exported =
         (v.0, step_out (paper_stop (ended v.1)) u.0, v.2 ∙ ap (λ (x : BlendRead). x.needed) (sym (w.0 ∙ ap read_out (sym k))), u.1, refl, refl)
     lack s t t' r w e (Err (BlendError.Fault x)) k =
         let z : refusal_of x ≡ 7 = ap (λ (q : BlendRead). q.refusal) (sym (w.0 ∙ ap read_out (sym k))) ∙ e in
-        absurd (no_seven x z)
+        absurd (no_seven x (stop_told s (length t / per_row) x k) z)
 
     go : (s t t' : List ℕ) (r : BlendRead) → blend_read s t r t' → (r.refusal ≡ 0 → ⊥) → (r.refusal ≡ 7 → ⊥) → (c : Result RawBlend BlendError) → paper_blend c ≡ read_as (file_by header_bytes s) (length t / per_row)
         → (rows : List Row) × (stop : BlendStep) × StepWalk s 0 0 rows stop × (stop.refusal ≡ r.refusal) × (stop.fault_at ≡ r.fault_at)

@@ -1,12 +1,13 @@
 -- Broken names have no width, and whole ones the width that they had; for other languages too.
 use Rattle.std.specs.Prelude.{Result, Ok, Err}
 use Prim.Native.Nat.{ℕ}
-use mathlib.Core.List.{List}
+use mathlib.Core.List.{List, []}
 use mathlib.Core.Path.{◌≡◌, refl, sym, ◌∙◌, ap, subst}
 use native.Mathlib.Omega.{arith}
 use borrow.Author.Tests.{le-ltb}
 use lib.ListN.{length}
 use Rattle.octets.specs.Ascii.{ascii}
+use Rattle.octets.specs.Paper.Paper.{refuses}
 use Rattle.octets.specs.Reader.{run}
 use Rattle.octets.proofs.Tests.{failed}
 use Rattle.field.specs.declared.field.FieldError.{FieldError}
@@ -14,7 +15,7 @@ use Rattle.field.specs.declared.field.Declarator.{Declarator}
 use Rattle.field.specs.Declarators.{function_pointer, taken, groups, spanned, digits, decimal, numbers, product, pointer_or_value, declared, parsed_as, paper_field}
 use Rattle.field.proofs.Examples.{broken}
 use Rattle.field.proofs.Lossless.{whole-field}
-use Rattle.octets.proofs.Numbers.{number-some}
+use Rattle.field.proofs.Refusing.{not_zero}
 use Rattle.field.proofs.Widths.{as_former, no-width}
 use Rattle.exports.specs.declared.BlendField.{BlendField}
 use Rattle.exports.specs.Exports.{field_out, size_of, value_out}
@@ -38,7 +39,7 @@ broken-names =
 -- what was told of a name, by what was read in it
 by_answer : (name : List ℕ) (room : ℕ) (q : Result Declarator FieldError) → paper_field q ≡ parsed_as (declared name) room → StandsFor (field_out (paper_field q)) q
 by_answer name room (Ok d) e = back d
-by_answer name room (Err (FieldError.Refusal r)) e = (refl, λ z. omega (arith, number-some r, z))
+by_answer name room (Err (FieldError.Refusal r)) e = (refl, λ z. not_zero (declared name) room [] (ap (λ (m : ℕ). refuses m []) (sym z) ∙ e))
 by_answer name room (Err (FieldError.DimensionTableTooShort n)) e = (refl, refl)
 
 pub widths_exported : WidthsExported

@@ -25,46 +25,46 @@ module _ (e : Endianness) where
   after_names : List Text → Reader Dna
   after_names names = then (listed e (ascii "TYPE")) (after_types names)
 
-  module _ (s : List ℕ) where
-    pub sdna_stopped : (x : Fault) → ◌≡◌ {A = Outcome (Unit {0})} (fault x) (run (tag (ascii "SDNA") (done tt)) s 0) → run (catalogue e) s 0 ≡ fault x
+  module _ (s : List ℕ) (at : ℕ) where
+    pub sdna_stopped : (x : Fault) → ◌≡◌ {A = Outcome (Unit {0})} (fault x) (run (tag (ascii "SDNA") (done tt)) s at) → run (catalogue e) s at ≡ fault x
     unfolding catalogue
-    sdna_stopped x h = tag-stops s 0 (ascii "SDNA") _ x h
+    sdna_stopped x h = tag-stops s at (ascii "SDNA") _ x h
 
-    module _ (a : ℕ) (m : ◌≡◌ {A = Outcome (Unit {0})} (read tt a) (run (tag (ascii "SDNA") (done tt)) s 0)) where
-      on-names : run (catalogue e) s 0 ≡ run (then (listed e (ascii "NAME")) after_names) s a
+    module _ (a : ℕ) (m : ◌≡◌ {A = Outcome (Unit {0})} (read tt a) (run (tag (ascii "SDNA") (done tt)) s at)) where
+      on-names : run (catalogue e) s at ≡ run (then (listed e (ascii "NAME")) after_names) s a
       unfolding catalogue after_names after_types after_sizes
-      on-names = tag-on s 0 (ascii "SDNA") (then (listed e (ascii "NAME")) after_names) a m
+      on-names = tag-on s at (ascii "SDNA") (then (listed e (ascii "NAME")) after_names) a m
 
-      pub names-stopped : (x : Fault) → run (listed e (ascii "NAME")) s a ≡ fault x → run (catalogue e) s 0 ≡ fault x
+      pub names-stopped : (x : Fault) → run (listed e (ascii "NAME")) s a ≡ fault x → run (catalogue e) s at ≡ fault x
       names-stopped x h = on-names ∙ stops (listed e (ascii "NAME")) after_names s a x h
 
       module _ (names : List Text) (b : ℕ) (n : run (listed e (ascii "NAME")) s a ≡ read names b) where
-        on-types : run (catalogue e) s 0 ≡ run (after_names names) s b
+        on-types : run (catalogue e) s at ≡ run (after_names names) s b
         on-types = on-names ∙ goes_on (listed e (ascii "NAME")) after_names s a names b n
 
-        pub types-stopped : (x : Fault) → run (listed e (ascii "TYPE")) s b ≡ fault x → run (catalogue e) s 0 ≡ fault x
+        pub types-stopped : (x : Fault) → run (listed e (ascii "TYPE")) s b ≡ fault x → run (catalogue e) s at ≡ fault x
         unfolding after_names
         types-stopped x h = on-types ∙ stops (listed e (ascii "TYPE")) (after_types names) s b x h
 
         module _ (types : List Text) (c : ℕ) (t : run (listed e (ascii "TYPE")) s b ≡ read types c) (k : ℕ) (l : length types ≡ k) where
-          on-sizes : run (catalogue e) s 0 ≡ run (after_types names types) s c
+          on-sizes : run (catalogue e) s at ≡ run (after_types names types) s c
           unfolding after_names
           on-sizes = on-types ∙ goes_on (listed e (ascii "TYPE")) (after_types names) s b types c t
 
-          pub sizes-stopped : (x : Fault) → run (sized e k) s c ≡ fault x → run (catalogue e) s 0 ≡ fault x
+          pub sizes-stopped : (x : Fault) → run (sized e k) s c ≡ fault x → run (catalogue e) s at ≡ fault x
           unfolding after_types
           sizes-stopped x h = on-sizes ∙ stops (sized e (length types)) (after_sizes names types) s c x (ap (λ (i : ℕ). run (sized e i) s c) l ∙ h)
 
           module _ (sizes : List ℕ) (d : ℕ) (z : run (sized e k) s c ≡ read sizes d) where
-            on-structs : run (catalogue e) s 0 ≡ run (after_sizes names types sizes) s d
+            on-structs : run (catalogue e) s at ≡ run (after_sizes names types sizes) s d
             unfolding after_types
             on-structs = on-sizes ∙ goes_on (sized e (length types)) (after_sizes names types) s c sizes d (ap (λ (i : ℕ). run (sized e i) s c) l ∙ z)
 
-            pub structs-stopped : (x : Fault) → run (structured e) s d ≡ fault x → run (catalogue e) s 0 ≡ fault x
+            pub structs-stopped : (x : Fault) → run (structured e) s d ≡ fault x → run (catalogue e) s at ≡ fault x
             unfolding after_sizes
             structs-stopped x h = on-structs ∙ stops (structured e) _ s d x h
 
             pub structs-found : (structs : List Struct) (end : ℕ) → run (structured e) s d ≡ read structs end
-                → run (catalogue e) s 0 ≡ read (record { names = names; types = types; sizes = sizes; structs = structs }) end
+                → run (catalogue e) s at ≡ read (record { names = names; types = types; sizes = sizes; structs = structs }) end
             unfolding after_sizes run
             structs-found structs end h = on-structs ∙ goes_on (structured e) _ s d structs end h

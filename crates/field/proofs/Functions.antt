@@ -21,6 +21,7 @@ use Rattle.octets.specs.Refusals.{paper_fault}
 use Rattle.octets.proofs.Former.{not_two}
 use Rattle.octets.proofs.Marks.{stands-room}
 use Rattle.octets.proofs.Onward.{tag-stands, tag-wrong, tag-cut}
+use Rattle.octets.proofs.Refusing.{Gives, given, gives-tag}
 use Rattle.octets.proofs.Tests.{held, failed}
 use Rattle.field.specs.Declarators.{Span, function_pointer, function_told, function_as}
 use Rattle.field.specs.Former.{name_closed, args_closed, is_function, former_function_as}
@@ -118,10 +119,15 @@ module _ (s : List ℕ) where
       first true a = second a (ltb (name_closed s) (length s)) refl
       first false a = told-two (mark-stops (ascii "(*") (here (λ at. until (code ")") (λ n. function_args (at, n)))) s 0 a) (rw a)
 
+  -- the tree has no refusal of its own
+  gives : Gives (λ r. ⊥) function_pointer
+  unfolding function_pointer
+  gives = gives-tag (λ r. ⊥) (ascii "(*") _ (λ at n. gives-tag (λ r. ⊥) (ascii "(") _ (λ m. tt))
+
   pub function_not_two : (vs : List ℕ) → function_as s ≡ refuses 2 vs → ⊥
   unfolding function_as
-  function_not_two vs e = go (run function_pointer s 0) e
+  function_not_two vs e = go (run function_pointer s 0) refl e
     where
-      go : (o : Outcome Span) → function_told s o ≡ refuses 2 vs → ⊥
-      go (read name next) g = cc
-      go (fault x) g = not_two x vs g
+      go : (o : Outcome Span) → run function_pointer s 0 ≡ o → function_told s o ≡ refuses 2 vs → ⊥
+      go (read name next) t g = cc
+      go (fault x) t g = not_two x (λ r q z. given (λ n. ⊥) function_pointer gives s 0 r (t ∙ ap fault q)) vs g

@@ -3,9 +3,10 @@
 
 pub mod blend;
 
-ghost use Rattle.std.specs.Prelude.{◌≡◌, ◌≤◌, ◌<◌, length, [], ◌∷◌};
+ghost use Rattle.std.specs.Prelude.{◌≡◌, ◌≤◌, ◌<◌, length, [], ◌∷◌, Some};
 ghost use Rattle.header.specs.Header as headers;
 ghost use Rattle.header.specs.Helpers.{version_length};
+ghost use Rattle.header.specs.Printed.{printed_format, printed_version, printed_header};
 ghost use Rattle.header.specs.Calls as calls;
 
 use octets::{Endianness, PointerSize};
@@ -70,6 +71,8 @@ impl FileFormat {
 }
 
 impl fmt::Display for FileFormat {
+    ghost output = { λ f. Some (printed_format f) };
+
     fn fmt<W: fmt::Write>(&self, f: &mut fmt::Formatter<W>) -> fmt::Result {
         match self {
             FileFormat::Legacy => write!(f, "legacy"),
@@ -104,6 +107,8 @@ impl Version {
 
 // As the Rust has it: major, a dot, minor.
 impl fmt::Display for Version {
+    ghost output = { λ v. Some (printed_version v) };
+
     fn fmt<W: fmt::Write>(&self, f: &mut fmt::Formatter<W>) -> fmt::Result {
         write!(f, "{}.{}", self.major, self.minor)
     }
@@ -156,6 +161,8 @@ impl Header {
 
 // Edition, pointer bits, order, major and minor.
 impl fmt::Display for Header {
+    ghost output = { λ h. Some (printed_header h) };
+
     fn fmt<W: fmt::Write>(&self, f: &mut fmt::Formatter<W>) -> fmt::Result {
         write!(
             f,

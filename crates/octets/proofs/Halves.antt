@@ -1,14 +1,15 @@
--- Halves: bytes of twice a width spell what their two halves spell, joined. A law of the rules; the code reads a number at once.
-use Prim.Native.Nat.{ℕ, suc, ◌+◌, ◌*◌, ◌-◌, ◌^◌}
+-- Halves: bytes of twice a width spell what their two halves spell, joined, and the bytes of a number are those of its halves, one after another. Laws of the rules; the
+-- code reads and writes a number at once.
+use Prim.Native.Nat.{ℕ, zero, suc, ◌+◌, ◌*◌, ◌-◌, ◌/◌, ◌%◌, ◌^◌}
 use mathlib.Core.List.{List, [], ◌∷◌, ◌++◌, reverse, reverse-append}
-use mathlib.Core.Path.{◌≡◌, sym, ◌∙◌, ap}
-use native.Mathlib.Nat.{pow-succ', mul_left_comm}
+use mathlib.Core.Path.{◌≡◌, refl, sym, ◌∙◌, ap}
+use native.Mathlib.Nat.{pow-succ', div-div-eq-div-mul, mul_left_comm}
 use native.Mathlib.Omega.{arith}
 use lib.ListN.{length, take, drop, length-reverse, length-drop, take-append-drop}
 use lib.Seq.{take_all, length-take-le}
 use Rattle.octets.specs.declared.Endianness.{Endianness}
 use Rattle.octets.specs.declared.Endianness.TheVariants.{Little, Big}
-use Rattle.octets.specs.Number.{little, spelled}
+use Rattle.octets.specs.Number.{little, spelled, digits, bytes_of}
 
 little-join : (a b : List ℕ) → little (a ++ b) ≡ little a + little b * 256 ^ length a
 little-join [] b = omega arith
@@ -35,3 +36,27 @@ module _ (e : Endianness) (l : List ℕ) (w base : ℕ) (h : length l ≡ w + w)
       let f : length (take w l) ≡ w = length-take-le w l (omega arith) in
       let g : length (drop w l) ≡ w = omega (arith, length-drop w l) in
       rw (p, q, second) (halves_spelled e (take w l) (drop w l) base (rw f b) (rw g b) ∙ ap (spelled e) (take-append-drop w l))
+
+-- the number whose bytes come first, and the one whose bytes come second: in the little order the less significant half is first
+abbrev pub first_half : Endianness → (base n : ℕ) → ℕ
+first_half Little base n = n
+first_half Big base n = n / base
+
+abbrev pub second_half : Endianness → (base n : ℕ) → ℕ
+second_half Little base n = n / base
+second_half Big base n = n
+
+digits-join : (a b n : ℕ) → digits (a + b) n ≡ digits a n ++ digits b (n / 256 ^ a)
+digits-join zero b n =
+    let e : zero + b ≡ b = omega arith in
+    let d : n / 256 ^ zero ≡ n = omega arith in
+    rw (e, d) refl
+digits-join (suc a) b n =
+    let e : suc a + b ≡ suc (a + b) = omega arith in
+    let d : n / 256 / 256 ^ a ≡ n / 256 ^ suc a = div-div-eq-div-mul n 256 (256 ^ a) ∙ ap (λ (k : ℕ). n / k) (sym (pow-succ' 256 a)) in
+    rw e (ap (λ (l : List ℕ). n % 256 ∷ l) (digits-join a b (n / 256) ∙ ap (λ (k : ℕ). digits a (n / 256) ++ digits b k) d))
+
+pub bytes_of_halves : (e : Endianness) (w base n : ℕ) → base ≡ 256 ^ w → bytes_of e (w + w) n ≡ bytes_of e w (first_half e base n) ++ bytes_of e w (second_half e base n)
+bytes_of_halves Little w base n h = digits-join w w n ∙ ap (λ (k : ℕ). digits w n ++ digits w (n / k)) (sym h)
+bytes_of_halves Big w base n h =
+    ap reverse (digits-join w w n) ∙ reverse-append (digits w n) (digits w (n / 256 ^ w)) ∙ ap (λ (k : ℕ). reverse (digits w (n / k)) ++ reverse (digits w n)) (sym h)

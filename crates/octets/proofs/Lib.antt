@@ -18,7 +18,6 @@ pub mod Marks
 pub mod Here
 pub mod Filling
 pub mod Written
-pub mod Numbers
 pub mod Lossless
 pub mod Former
 pub mod Cutting

@@ -1,13 +1,15 @@
 -- Papers and outcomes lose nothing: two faults, two finds of a tree and two answers of the cursor that are told alike are the same.
 use Prim.Native.Nat.{ℕ, ◌<◌}
-use mathlib.Core.Bool.{Bool, true, false}
+use mathlib.Core.Bool.{Bool, true, false, Bool-set}
 use mathlib.Core.List.{List, [], ◌∷◌, ◌++◌}
 use mathlib.Core.Path.{◌≡◌, refl, sym, ◌∙◌, ap}
 use lib.Dec.{eqb}
 use Rattle.std.specs.Prelude.{Option, Some, None, Result, Ok, Err}
 use native.Mathlib.Omega.{arith}
+use borrow.Author.Tests.{eqb-true}
+use Rattle.octets.specs.declared.Unlisted.{Unlisted}
 use Rattle.octets.specs.declared.Refusal.{Refusal}
-use Rattle.octets.specs.declared.Refusal.TheVariants.{CompressedFileNotSupported, InvalidMemoryAddress, UnsupportedCountOnPrincipalBlock, UnknownBlockCode, NoDnaBlockFound, InvalidArraySize, ProductTooLarge, ValueSliceTooShort, NotThere, NameNotFullyRead}
+use Rattle.octets.specs.declared.Refusal.TheVariants.{CompressedFileNotSupported, InvalidMemoryAddress, UnsupportedCountOnPrincipalBlock, UnknownBlockCode, NoDnaBlockFound, InvalidArraySize, ProductTooLarge, ValueSliceTooShort, NotThere, NameNotFullyRead, Other}
 use Rattle.octets.specs.declared.Fault.{Fault}
 use Rattle.octets.specs.declared.Fault.TheVariants.{Cut, Mark}
 use Rattle.octets.specs.declared.cursor.Cursor.{Cursor}
@@ -16,6 +18,7 @@ use Rattle.octets.specs.Paper.{Paper}
 use Rattle.octets.specs.Paper.Paper.{refuses}
 use Rattle.octets.specs.Reader.{Outcome}
 use Rattle.octets.specs.Reader.Outcome.{read, fault}
+use Rattle.octets.specs.Listed.{listed}
 use Rattle.octets.specs.Refusals.{number_of, paper_answer, paper_fault, told}
 
 -- a place is its number
@@ -41,8 +44,8 @@ whole-begun here None (Some y) h = cc
 whole-begun here None None h = refl
 
 -- A refusal is its number: it is the one that the number leads back to.
-by_number : ℕ → Refusal
-by_number n =
+by_name : ℕ → Refusal
+by_name n =
     elim (eqb n 1) [
       | true ↦ CompressedFileNotSupported
       | false ↦ elim (eqb n 3) [
@@ -69,8 +72,22 @@ by_number n =
       ]
     ]
 
+by-listed : (n : ℕ) (b : Bool) → listed n ≡ b → Refusal
+by-listed n true h = by_name n
+by-listed n false h = Other (record { number = n; unlisted = h })
+
+pub by_number : ℕ → Refusal
+by_number n = by-listed n (listed n) refl
+
+back_other : (u : Unlisted) (b : Bool) (h : listed u.number ≡ b) → by-listed u.number b h ≡ Other u
+unfolding by-listed
+back_other u true h =
+    let other : listed u.number ≡ false = u.unlisted in
+    cc
+back_other u false h = ap (λ (k : listed u.number ≡ false). Other (record { number = u.number; unlisted = k })) (Bool-set (listed u.number) false h u.unlisted)
+
 back : (r : Refusal) → by_number (number_of r) ≡ r
-unfolding by_number
+unfolding by_number by-listed by_name
 back CompressedFileNotSupported = refl
 back InvalidMemoryAddress = refl
 back UnsupportedCountOnPrincipalBlock = refl
@@ -81,9 +98,32 @@ back ProductTooLarge = refl
 back ValueSliceTooShort = refl
 back NotThere = refl
 back NameNotFullyRead = refl
+back (Other u) = back_other u (listed u.number) refl
 
 pub one_refusal : (r q : Refusal) → number_of r ≡ number_of q → r ≡ q
 one_refusal r q e = sym (back r) ∙ ap by_number e ∙ back q
+
+-- And each number is one of a refusal, so what holds of every refusal holds of every number.
+chosen : (n k : ℕ) (r q : Refusal) → number_of r ≡ k → (eqb n k ≡ false → number_of q ≡ n) → number_of (elim (eqb n k) [ true ↦ r | false ↦ q ]) ≡ n
+chosen n k r q e f = go (eqb n k) refl
+  where
+    go : (b : Bool) → eqb n k ≡ b → number_of (elim b [ true ↦ r | false ↦ q ]) ≡ n
+    go true t = e ∙ sym (eqb-true n k t)
+    go false t = f t
+
+named : (n : ℕ) → listed n ≡ true → number_of (by_name n) ≡ n
+unfolding by_name
+named n h =
+    chosen n 1 _ _ refl (λ a. chosen n 3 _ _ refl (λ b. chosen n 4 _ _ refl (λ c. chosen n 5 _ _ refl (λ d. chosen n 6 _ _ refl (λ e. chosen n 9 _ _ refl (λ f.
+    chosen n 10 _ _ refl (λ g. chosen n 12 _ _ refl (λ i. chosen n 13 _ _ refl (λ j. sym (eqb-true n 15 (rw (a, b, c, d, e, f, g, i, j) at h)))))))))))
+
+pub every_number : (n : ℕ) → number_of (by_number n) ≡ n
+unfolding by_number by-listed
+every_number n = go (listed n) refl
+  where
+    go : (b : Bool) (h : listed n ≡ b) → number_of (by-listed n b h) ≡ n
+    go true h = named n h
+    go false h = refl
 
 -- so is an answer with it, where the values' papers lose nothing and are no refusals
 pub whole-answer : {A : Type 0} (paper : A → Paper) → ((a b : A) → paper a ≡ paper b → a ≡ b) → ((a : A) (n : ℕ) → paper a ≡ refuses n [] → ⊥)

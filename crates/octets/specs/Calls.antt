@@ -20,6 +20,9 @@ PointerSize::bytes_num self r = r ≡ pointer_bytes self
 abbrev pub «Refusal::number» : (self : Refusal) → ℕ → Type 0
 «Refusal::number» self r = r ≡ number_of self
 
+abbrev pub Refusal::of_number : (number : ℕ) → Refusal → Type 0
+Refusal::of_number number r = number_of r ≡ number
+
 abbrev pub «Fault::refusal» : (self : Fault) → ℕ → Type 0
 «Fault::refusal» self r = r ≡ refusal_of self
 

@@ -4,7 +4,9 @@ pub mod Reader
 pub mod Number
 pub mod Looks
 pub mod Paper
+pub mod Listed
 pub mod Refusals
+pub mod Printed
 pub mod Former
 pub mod Tables
 pub mod PointerSize

@@ -1,7 +1,7 @@
 -- Refusal numbers: the number of each refusal, and what it carries.
 use Rattle.std.specs.Prelude.{ℕ, List, [], ◌∷◌, ◌++◌, Result, Ok, Err}
 use Rattle.octets.specs.declared.Refusal.{Refusal}
-use Rattle.octets.specs.declared.Refusal.TheVariants.{CompressedFileNotSupported, InvalidMemoryAddress, UnsupportedCountOnPrincipalBlock, UnknownBlockCode, NoDnaBlockFound, InvalidArraySize, ProductTooLarge, ValueSliceTooShort, NotThere, NameNotFullyRead}
+use Rattle.octets.specs.declared.Refusal.TheVariants.{CompressedFileNotSupported, InvalidMemoryAddress, UnsupportedCountOnPrincipalBlock, UnknownBlockCode, NoDnaBlockFound, InvalidArraySize, ProductTooLarge, ValueSliceTooShort, NotThere, NameNotFullyRead, Other}
 use Rattle.octets.specs.declared.Fault.{Fault}
 use Rattle.octets.specs.declared.Fault.TheVariants.{Cut, Mark}
 use Rattle.octets.specs.Paper.{Paper}
@@ -85,6 +85,7 @@ number_of ProductTooLarge = 10
 number_of ValueSliceTooShort = 12
 number_of NotThere = 13
 number_of NameNotFullyRead = 15
+number_of (Other u) = u.number
 
 -- The number of a fault's refusal, and what it carries: a cut and a wrong mark the offset of the failed read's first byte, the others nothing.
 abbrev pub refusal_of : Fault → ℕ

@@ -4,8 +4,8 @@
 pub mod cursor;
 mod number;
 
-ghost use Rattle.std.specs.Prelude.{◌≡◌};
-ghost use Rattle.octets.specs.Calls as calls;
+ghost use Rattle.std.specs.Prelude.{◌≡◌, Some, false};
+ghost use Rattle.octets.specs.Listed.{listed};
 
 use std::error::Error;
 use std::fmt;
@@ -18,6 +18,8 @@ pub enum PointerSize {
 }
 
 impl PointerSize {
+    ghost use Rattle.octets.specs.Calls as calls;
+
     /// The bytes of a 32-bit pointer.
     pub const BYTES_32: usize = 4;
 
@@ -38,6 +40,10 @@ impl PointerSize {
 
 // In bits.
 impl fmt::Display for PointerSize {
+    ghost use Rattle.octets.specs.Printed.{printed_pointer_size};
+
+    ghost output = { λ p. Some (printed_pointer_size p) };
+
     fn fmt<W: fmt::Write>(&self, f: &mut fmt::Formatter<W>) -> fmt::Result {
         match self {
             PointerSize::Bits32 => write!(f, "32"),
@@ -54,12 +60,23 @@ pub enum Endianness {
 }
 
 impl fmt::Display for Endianness {
+    ghost use Rattle.octets.specs.Printed.{printed_endianness};
+
+    ghost output = { λ e. Some (printed_endianness e) };
+
     fn fmt<W: fmt::Write>(&self, f: &mut fmt::Formatter<W>) -> fmt::Result {
         match self {
             Endianness::Little => write!(f, "little"),
             Endianness::Big => write!(f, "big"),
         }
     }
+}
+
+/// A number that none of the named refusals has.
+#[derive(Clone, Copy, Debug, PartialEq, Eq)]
+pub struct Unlisted {
+    number: u64,
+    ghost unlisted: { listed number ≡ false },
 }
 
 /// A refusal that carries nothing, by its name in document 01's table. Those that carry something are variants of the errors of the calls that give them.
@@ -85,9 +102,13 @@ pub enum Refusal {
     NotThere,
     /// 15: something is left of a field's name after its declarator, so that it has no width.
     NameNotFullyRead,
+    /// Any other number: no call of the reader gives it.
+    Other(Unlisted),
 }
 
 impl Refusal {
+    ghost use Rattle.octets.specs.Calls as calls;
+
     // The numbers of the refusals that carry something, as documents 01 and 02 have them: what carries it is a variant of an error enum, and C is told the number.
     // Document 01's 2, malformed, is 16 or 17 here.
 
@@ -130,12 +151,36 @@ impl Refusal {
             Refusal::ValueSliceTooShort => 12,
             Refusal::NotThere => 13,
             Refusal::NameNotFullyRead => 15,
+            Refusal::Other(other) => other.number,
+        }
+    }
+
+    /// The refusal that has this number.
+    pub fn of_number(number: u64) -> Refusal
+        ensures { calls.Refusal::of_number number result }
+    {
+        match number {
+            1 => Refusal::CompressedFileNotSupported,
+            3 => Refusal::InvalidMemoryAddress,
+            4 => Refusal::UnsupportedCountOnPrincipalBlock,
+            5 => Refusal::UnknownBlockCode,
+            6 => Refusal::NoDnaBlockFound,
+            9 => Refusal::InvalidArraySize,
+            10 => Refusal::ProductTooLarge,
+            12 => Refusal::ValueSliceTooShort,
+            13 => Refusal::NotThere,
+            15 => Refusal::NameNotFullyRead,
+            _ => Refusal::Other(Unlisted { number }),
         }
     }
 }
 
 // By its number.
 impl fmt::Display for Refusal {
+    ghost use Rattle.octets.specs.Printed.{printed_refusal};
+
+    ghost output = { λ r. Some (printed_refusal r) };
+
     fn fmt<W: fmt::Write>(&self, f: &mut fmt::Formatter<W>) -> fmt::Result {
         write!(f, "{}", self.number())
     }
@@ -165,6 +210,8 @@ impl From<Refusal> for Fault {
 }
 
 impl Fault {
+    ghost use Rattle.octets.specs.Calls as calls;
+
     /// The number of the refusal.
     pub fn refusal(self) -> u64
         ensures { calls.«Fault::refusal» self result }
@@ -190,6 +237,10 @@ impl Fault {
 
 // By its number and, of a cut and a wrong mark, the offset that it carries.
 impl fmt::Display for Fault {
+    ghost use Rattle.octets.specs.Printed.{printed_fault};
+
+    ghost output = { λ f. Some (printed_fault f) };
+
     fn fmt<W: fmt::Write>(&self, f: &mut fmt::Formatter<W>) -> fmt::Result {
         match self {
             Fault::Refusal(r) => write!(f, "{r}"),

@@ -63,7 +63,7 @@ use Rattle.writer.proofs as writer
 use Rattle.held.proofs as held
 use Rattle.exports.proofs as exports
 use Rattle.demands.proofs as demands
-use Rattle.octets.proofs.Lossless.{at_one, whole-found, whole-moved, whole-begun}
+use Rattle.octets.proofs.Lossless.{at_one, one_refusal, whole-found, whole-moved, whole-begun}
 use Rattle.primitive.proofs.Lossless.{whole_unsigned, whole_signed, whole_float}
 use Rattle.field.proofs.Lossless.{whole-field, whole-scanned, whole-function, whole-width}
 use Rattle.dna.proofs.Lossless.{one_filling, whole-counted as wholeCountedDna}
@@ -76,7 +76,7 @@ use Rattle.runtime.proofs.Lossless.{whole-view, whole-pointer, whole_code}
 use Rattle.held.specs.declared.Walker.{Walker}
 use Rattle.promises.specs.Keeps.{Says, Keeps, Holds}
 use Rattle.promises.specs.Calls.{PublicCall, Refused, Nonzero, public_call}
-use Rattle.promises.specs.Calls.PublicCall.{octets::PointerSize::bytes_num, «octets::Refusal::number», «octets::Fault::refusal», «octets::Fault::place», octets::cursor::Width::bytes_num, octets::cursor::stands_at, «octets::cursor::before», «octets::cursor::Cursor::new», «octets::cursor::Cursor::number», «octets::cursor::Cursor::skip», «octets::cursor::Cursor::bytes», «octets::cursor::Cursor::part», «octets::cursor::Cursor::mark», «octets::cursor::Cursor::begins», «octets::cursor::Cursor::until», «octets::cursor::Cursor::string», primitive::primitive::parse_u8, primitive::primitive::parse_u16, primitive::primitive::parse_u32, primitive::primitive::parse_u64, primitive::primitive::parse_char, primitive::primitive::parse_i8, primitive::primitive::parse_i16, primitive::primitive::parse_i32, primitive::primitive::parse_i64, primitive::primitive::parse_f32, primitive::primitive::parse_f64, primitive::primitive::blender_name_char, primitive::primitive::blender_name_i8, primitive::primitive::blender_name_u8, primitive::primitive::blender_name_u16, primitive::primitive::blender_name_i16, primitive::primitive::blender_name_i32, primitive::primitive::blender_name_u32, primitive::primitive::blender_name_f32, primitive::primitive::blender_name_f64, primitive::primitive::blender_name_u64, primitive::primitive::blender_name_i64, field::field::fn_pointer, field::field::scan_field, field::field::parse_field, «field::field::width», «dna::dna::DnaTable::number», dna::dna::dna_counts, «dna::dna::dna», header::FileFormat::header_len, header::FileFormat::block_header_len, «header::Header::new», «block::BlockHeader::new», block::Kind::of_code, «block::About::new», «block::Kind::about», header::blend::pointer_size, «header::blend::endianness», «header::blend::version», «header::blend::header», header::blend::refusal_of, block::blend::block_header_code, block::blend::block_header, block::blend::header_in, blend::blend::boundary_at, «blend::blend::blend», «walker::Place::start», «walker::Place::step», «runtime::runtime::view», runtime::runtime::view_part, «runtime::runtime::matches», runtime::runtime::get_ptr, «runtime::runtime::code», «index::index::build», «index::index::find», writable::writable::row_at, writable::writable::bytes_needed, «writer::writer::write», held::step_at, «held::over», «held::next», «held::moved», held::step_from, held::row_is, held::find_row, held::find_in, exports::blend_header, exports::blend_read, exports::blend_step, exports::blend_catalogue, exports::blend_field, exports::blend_width, exports::blend_view, exports::blend_lookup, exports::blend_index, exports::blend_find, exports::blend_write, exports::blend_u8, exports::blend_u16, exports::blend_u32, exports::blend_u64, «demands::read», demands::read_two}
+use Rattle.promises.specs.Calls.PublicCall.{octets::PointerSize::bytes_num, «octets::Refusal::number», octets::Refusal::of_number, «octets::Fault::refusal», «octets::Fault::place», «octets::FaultFromRefusal::from», octets::cursor::Width::bytes_num, octets::cursor::stands_at, «octets::cursor::before», «octets::cursor::Cursor::new», «octets::cursor::Cursor::number», «octets::cursor::Cursor::skip», «octets::cursor::Cursor::bytes», «octets::cursor::Cursor::part», «octets::cursor::Cursor::mark», «octets::cursor::Cursor::begins», «octets::cursor::Cursor::until», «octets::cursor::Cursor::string», primitive::primitive::parse_u8, primitive::primitive::parse_u16, primitive::primitive::parse_u32, primitive::primitive::parse_u64, primitive::primitive::parse_char, primitive::primitive::parse_i8, primitive::primitive::parse_i16, primitive::primitive::parse_i32, primitive::primitive::parse_i64, primitive::primitive::parse_f32, primitive::primitive::parse_f64, primitive::primitive::blender_name_char, primitive::primitive::blender_name_i8, primitive::primitive::blender_name_u8, primitive::primitive::blender_name_u16, primitive::primitive::blender_name_i16, primitive::primitive::blender_name_i32, primitive::primitive::blender_name_u32, primitive::primitive::blender_name_f32, primitive::primitive::blender_name_f64, primitive::primitive::blender_name_u64, primitive::primitive::blender_name_i64, field::field::fn_pointer, field::field::scan_field, field::field::parse_field, «field::field::width», «field::field::FieldErrorFromRefusal::from», «dna::dna::DnaTable::number», dna::dna::dna_counts, «dna::dna::dna», «dna::dna::DnaErrorFromFault::from», header::FileFormat::header_len, header::FileFormat::block_header_len, «header::Header::new», «block::BlockHeader::new», block::Kind::of_code, «block::About::new», «block::Kind::about», header::blend::pointer_size, «header::blend::endianness», «header::blend::version», «header::blend::header», header::blend::refusal_of, block::blend::block_header_code, block::blend::block_header, block::blend::header_in, blend::blend::boundary_at, «blend::blend::blend», «blend::blend::BlendErrorFromFault::from», «walker::Place::start», «walker::Place::step», «runtime::runtime::view», runtime::runtime::view_part, «runtime::runtime::matches», runtime::runtime::get_ptr, «runtime::runtime::code», «index::index::build», «index::index::find», writable::writable::row_at, writable::writable::bytes_needed, «writable::writable::WritableErrorFromFault::from», «writer::writer::write», «writer::writer::WriteErrorFromWritableError::from», held::step_at, «held::over», «held::next», «held::moved», held::step_from, held::row_is, held::find_row, held::find_in, exports::blend_header, exports::blend_read, exports::blend_step, exports::blend_catalogue, exports::blend_field, exports::blend_width, exports::blend_view, exports::blend_lookup, exports::blend_index, exports::blend_find, exports::blend_write, exports::blend_u8, exports::blend_u16, exports::blend_u32, exports::blend_u64, «demands::read», demands::read_two}
 
 -- of a function whose contract has a second clause besides, the first is kept
 module _ (T : Ended) (name : Callee) (code : Code) (says : Says T)
@@ -186,8 +186,10 @@ write-unwritten edition bytes order major minor t rows s out r out' x z =
 pub every : (c : PublicCall) → Holds (public_call c)
 every octets::PointerSize::bytes_num = record { keeps = first-kept octets_contracts.PointerSize.bytes_num.ended (fn₀ "octets::PointerSize::bytes_num") _ (λ κs a r e. PointerSize::bytes_num a.0 r) (λ M 𝓤 𝓛 𝓜 𝓡 κs a r e. octets_contracts.PointerSize.bytes_num.ensures-constants 𝓛 κs 𝓜.mem 𝓡.returns a.0 (record { entry = a.0; exit = e.0 }) r) (λ M. octets.PointerSize.bytes_num.Met.met); one = λ κs a r q ws vs x y. (x ∙ sym y, refl) }
 every «octets::Refusal::number» = record { keeps = λ M. octets.Refusal.number.Met.met; one = λ κs a r q ws vs x y. (x ∙ sym y, refl) }
+every octets::Refusal::of_number = record { keeps = λ M. octets.Refusal.of_number.Met.met; one = λ κs a r q ws vs x y. (one_refusal r q (x ∙ sym y), refl) }
 every «octets::Fault::refusal» = record { keeps = λ M. octets.Fault.refusal.Met.met; one = λ κs a r q ws vs x y. (x ∙ sym y, refl) }
 every «octets::Fault::place» = record { keeps = λ M. octets.Fault.place.Met.met; one = λ κs a r q ws vs x y. (x ∙ sym y, refl) }
+every «octets::FaultFromRefusal::from» = record { keeps = λ M. octets.FaultFromRefusal.from.Met.met; one = λ κs a r q ws vs x y. (x ∙ sym y, refl) }
 every octets::cursor::Width::bytes_num = record { keeps = λ M. octets.cursor.Width.bytes_num.Met.met; one = λ κs a r q ws vs x y. (x ∙ sym y, refl) }
 every octets::cursor::stands_at = record { keeps = λ M. octets.cursor.stands_at.Met.met; one = λ κs a r q ws vs x y. (x ∙ sym y, refl) }
 every «octets::cursor::before» = record { keeps = λ M. octets.cursor.before.Met.met; one = λ κs a r q ws vs x y. (x ∙ sym y, refl) }
@@ -231,6 +233,7 @@ every field::field::parse_field =
       nothing = λ κs a r ws x f. unwritten _ _ _ _ _ x.0 x.1 f;
     }
 every «field::field::width» = record { keeps = λ M. field.field.width.Met.met; one = λ κs a r q ws vs x y. (whole-width r q (x ∙ sym y), refl) }
+every «field::field::FieldErrorFromRefusal::from» = record { keeps = λ M. field.field.FieldErrorFromRefusal.from.Met.met; one = λ κs a r q ws vs x y. (x ∙ sym y, refl) }
 every «dna::dna::DnaTable::number» = record { keeps = λ M. dna.dna.DnaTable.number.Met.met; one = λ κs a r q ws vs x y. (x ∙ sym y, refl) }
 every dna::dna::dna_counts = record { keeps = λ M. dna.dna.dna_counts.Met.met; one = λ κs a r q ws vs x y. (wholeCountedDna r q (x ∙ sym y), refl) }
 every «dna::dna::dna» =
@@ -242,6 +245,7 @@ every «dna::dna::dna» =
       nothing = λ κs a r ws x f.
           (unwritten _ _ _ _ _ x.answer x.in_names f, unwritten _ _ _ _ _ x.answer x.in_types f, unwritten _ _ _ _ _ x.answer x.in_structs f, unwritten _ _ _ _ _ x.answer x.in_fields f);
     }
+every «dna::dna::DnaErrorFromFault::from» = record { keeps = λ M. dna.dna.DnaErrorFromFault.from.Met.met; one = λ κs a r q ws vs x y. (x ∙ sym y, refl) }
 every header::FileFormat::header_len = record { keeps = first-kept header_contracts.FileFormat.header_len.ended (fn₀ "header::FileFormat::header_len") _ (λ κs a r e. FileFormat::header_len a.0 r) (λ M 𝓤 𝓛 𝓜 𝓡 κs a r e. header_contracts.FileFormat.header_len.ensures-constants 𝓛 κs 𝓜.mem 𝓡.returns a.0 (record { entry = a.0; exit = e.0 }) r) (λ M. header.FileFormat.header_len.Met.met); one = λ κs a r q ws vs x y. (x ∙ sym y, refl) }
 every header::FileFormat::block_header_len = record { keeps = first-kept header_contracts.FileFormat.block_header_len.ended (fn₀ "header::FileFormat::block_header_len") _ (λ κs a r e. FileFormat::block_header_len a.0 a.1.0 r) (λ M 𝓤 𝓛 𝓜 𝓡 κs a r e. header_contracts.FileFormat.block_header_len.ensures-constants 𝓛 κs 𝓜.mem 𝓡.returns a.0 a.1.0 (record { entry = a.0; exit = e.0 }) (record { entry = a.1.0; exit = e.1.0 }) r) (λ M. header.FileFormat.block_header_len.Met.met); one = λ κs a r q ws vs x y. (x ∙ sym y, refl) }
 every «header::Header::new» = record { keeps = λ M. header.Header.new.Met.met; one = λ κs a r q ws vs x y. (x ∙ sym y, refl) }
@@ -264,6 +268,7 @@ every «blend::blend::blend» =
       one = λ κs a r q ws vs x y. (whole-blend r q (x.0 ∙ sym y.0), lent ws.1.0 vs.1.0 (x.1 ∙ sym y.1));
       nothing = λ κs a r ws x f. blend-unwritten a.0.now a.1.0.now r ws.1.0 x f;
     }
+every «blend::blend::BlendErrorFromFault::from» = record { keeps = λ M. blend.blend.BlendErrorFromFault.from.Met.met; one = λ κs a r q ws vs x y. (x ∙ sym y, refl) }
 every «walker::Place::start» = record { keeps = λ M. walker.Place.start.Met.met; one = λ κs a r q ws vs x y. (x ∙ sym y, refl) }
 every «walker::Place::step» = record { keeps = λ M. walker.Place.step.Met.met; one = λ κs a r q ws vs x y. (whole-step r q (x.0 ∙ sym y.0) (x.1 ∙ sym y.1), refl) }
 every «runtime::runtime::view» = record { keeps = λ M. runtime.runtime.view.Met.met; one = λ κs a r q ws vs x y. (whole-view r q (x ∙ sym y), refl) }
@@ -281,6 +286,7 @@ every «index::index::build» =
 every «index::index::find» = record { keeps = λ M. index.index.find.Met.met; one = λ κs a r q ws vs x y. (whole-found-index r q (x ∙ sym y), refl) }
 every writable::writable::row_at = record { keeps = λ M. writable.writable.row_at.Met.met; one = λ κs a r q ws vs x y. (x ∙ sym y, refl) }
 every writable::writable::bytes_needed = record { keeps = λ M. writable.writable.bytes_needed.Met.met; one = λ κs a r q ws vs x y. (x ∙ sym y, refl) }
+every «writable::writable::WritableErrorFromFault::from» = record { keeps = λ M. writable.writable.WritableErrorFromFault.from.Met.met; one = λ κs a r q ws vs x y. (x ∙ sym y, refl) }
 every «writer::writer::write» =
     record {
       keeps = λ M. writer.writer.write.Met.met;
@@ -288,6 +294,7 @@ every «writer::writer::write» =
           (x.0 ∙ sym y.0, lent_output _ _ (x.1 ∙ ap (λ (w : Result ℕ WriteError). output_after w a.0 a.1.0.now a.1.1.0 a.1.1.1.0.now a.1.1.1.1.0.now) (x.0 ∙ sym y.0) ∙ sym y.1));
       nothing = λ κs a r ws x f. unwritten _ (paper_write r) _ _ _ refl x.1 f;
     }
+every «writer::writer::WriteErrorFromWritableError::from» = record { keeps = λ M. writer.writer.WriteErrorFromWritableError.from.Met.met; one = λ κs a r q ws vs x y. (x ∙ sym y, refl) }
 every held::step_at = record { keeps = λ M. held.step_at.Met.met; one = λ κs a r q ws vs x y. (whole-step r q (x.0 ∙ sym y.0) (x.1 ∙ sym y.1), refl) }
 every «held::over» = record { keeps = λ M. held.over.Met.met; one = λ κs a r q ws vs x y. (one_walker r q (x.0 ∙ sym y.0) (x.1 ∙ sym y.1), refl) }
 every «held::next» = record { keeps = λ M. held.next.Met.met; one = λ κs a r q ws vs x y. (whole-step r q (x.0 ∙ sym y.0) (x.1 ∙ sym y.1), refl) }

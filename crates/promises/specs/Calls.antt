@@ -1,9 +1,10 @@
 -- Every public call of the libraries: by its name, with its signature, its code and its contract, which is the one that src/ ensures
--- (crates/NAME/specs/Calls.antt). tests/public-calls fails where a public function is none of these.
+-- (crates/NAME/specs/Calls.antt; for an impl of From, its `from_gives`). tests/public-calls fails where a public function is none of these.
 use Rattle.std.specs.Prelude.{ℕ, List, ◌≡◌}
+use Rattle.octets.specs.declared.Fault.{Fault}
 use Rattle.octets.specs.Paper.{Paper}
 use Rattle.octets.specs.Paper.Paper.{refuses}
-use Rattle.octets.specs.Calls.{«Refusal::number», «Fault::refusal», «Fault::place», PointerSize::bytes_num, cursor::Width::bytes_num, cursor::stands_at, «cursor::before», «cursor::Cursor::new», «cursor::Cursor::number», «cursor::Cursor::skip», «cursor::Cursor::bytes», «cursor::Cursor::part», «cursor::Cursor::mark», «cursor::Cursor::begins», «cursor::Cursor::until», «cursor::Cursor::string»}
+use Rattle.octets.specs.Calls.{«Refusal::number», Refusal::of_number, «Fault::refusal», «Fault::place», PointerSize::bytes_num, cursor::Width::bytes_num, cursor::stands_at, «cursor::before», «cursor::Cursor::new», «cursor::Cursor::number», «cursor::Cursor::skip», «cursor::Cursor::bytes», «cursor::Cursor::part», «cursor::Cursor::mark», «cursor::Cursor::begins», «cursor::Cursor::until», «cursor::Cursor::string»}
 use Rattle.primitive.specs.Calls.{primitive::parse_u8, primitive::parse_u16, primitive::parse_u32, primitive::parse_u64, primitive::parse_char, primitive::parse_i8, primitive::parse_i16, primitive::parse_i32, primitive::parse_i64, primitive::parse_f32, primitive::parse_f64, primitive::blender_name_char, primitive::blender_name_i8, primitive::blender_name_u8, primitive::blender_name_u16, primitive::blender_name_i16, primitive::blender_name_i32, primitive::blender_name_u32, primitive::blender_name_f32, primitive::blender_name_f64, primitive::blender_name_u64, primitive::blender_name_i64}
 use Rattle.field.specs.Calls.{field::fn_pointer, field::scan_field, field::parse_field, «field::width»}
 use Rattle.dna.specs.Calls.{«dna::DnaTable::number», dna::dna_counts, «dna::dna»}
@@ -18,6 +19,11 @@ use Rattle.writer.specs.Calls.{«writer::write»}
 use Rattle.held.specs.Calls.{step_at, «over», «next», «moved», step_from, row_is, find_row, find_in}
 use Rattle.exports.specs.Calls.{blend_header, blend_read, blend_step, blend_catalogue, blend_field, blend_width, blend_view, blend_lookup, blend_index, blend_find, blend_write, blend_u8, blend_u16, blend_u32, blend_u64}
 use Rattle.demands.specs.Calls.{«read», read_two}
+use Rattle.field.specs.declared.field.FieldError.{FieldError}
+use Rattle.dna.specs.declared.dna.DnaError.{DnaError}
+use Rattle.blend.specs.declared.blend.BlendError.{BlendError}
+use Rattle.writable.specs.declared.writable.WritableError.{WritableError}
+use Rattle.writer.specs.declared.writer.WriteError.{WriteError}
 use Rattle.field.specs.Declarators.{paper_field}
 use Rattle.dna.specs.Catalogue.{paper_tables}
 use Rattle.blend.specs.Chain.{paper_blend}
@@ -60,8 +66,10 @@ use Rattle.promises.specs.Keeps.Public.{call, shows, lends}
 pub data PublicCall : Type 0 where
   octets::PointerSize::bytes_num : PublicCall
   «octets::Refusal::number» : PublicCall
+  octets::Refusal::of_number : PublicCall
   «octets::Fault::refusal» : PublicCall
   «octets::Fault::place» : PublicCall
+  «octets::FaultFromRefusal::from» : PublicCall
   octets::cursor::Width::bytes_num : PublicCall
   octets::cursor::stands_at : PublicCall
   «octets::cursor::before» : PublicCall
@@ -100,9 +108,11 @@ pub data PublicCall : Type 0 where
   field::field::scan_field : PublicCall
   field::field::parse_field : PublicCall
   «field::field::width» : PublicCall
+  «field::field::FieldErrorFromRefusal::from» : PublicCall
   «dna::dna::DnaTable::number» : PublicCall
   dna::dna::dna_counts : PublicCall
   «dna::dna::dna» : PublicCall
+  «dna::dna::DnaErrorFromFault::from» : PublicCall
   header::FileFormat::header_len : PublicCall
   header::FileFormat::block_header_len : PublicCall
   «header::Header::new» : PublicCall
@@ -120,6 +130,7 @@ pub data PublicCall : Type 0 where
   block::blend::header_in : PublicCall
   blend::blend::boundary_at : PublicCall
   «blend::blend::blend» : PublicCall
+  «blend::blend::BlendErrorFromFault::from» : PublicCall
   «walker::Place::start» : PublicCall
   «walker::Place::step» : PublicCall
   «runtime::runtime::view» : PublicCall
@@ -131,7 +142,9 @@ pub data PublicCall : Type 0 where
   «index::index::find» : PublicCall
   writable::writable::row_at : PublicCall
   writable::writable::bytes_needed : PublicCall
+  «writable::writable::WritableErrorFromFault::from» : PublicCall
   «writer::writer::write» : PublicCall
+  «writer::writer::WriteErrorFromWritableError::from» : PublicCall
   held::step_at : PublicCall
   «held::over» : PublicCall
   «held::next» : PublicCall
@@ -168,8 +181,10 @@ Nonzero n = n ≡ 0 → ⊥
 abbrev pub public_call : PublicCall → Public
 public_call octets::PointerSize::bytes_num = call octets_contracts.PointerSize.bytes_num.ended (fn₀ "octets::PointerSize::bytes_num") (code_of _ (λ M. octets.PointerSize.bytes_num.Met.met {M = M})) (λ κs (self, _) r e. PointerSize::bytes_num self r)
 public_call «octets::Refusal::number» = call octets_contracts.Refusal.number.ended (fn₀ "octets::Refusal::number") (code_of _ (λ M. octets.Refusal.number.Met.met {M = M})) (λ κs (self, _) r e. «Refusal::number» self r)
+public_call octets::Refusal::of_number = call octets_contracts.Refusal.of_number.ended (fn₀ "octets::Refusal::of_number") (code_of _ (λ M. octets.Refusal.of_number.Met.met {M = M})) (λ κs (number, _) r e. Refusal::of_number number r)
 public_call «octets::Fault::refusal» = call octets_contracts.Fault.refusal.ended (fn₀ "octets::Fault::refusal") (code_of _ (λ M. octets.Fault.refusal.Met.met {M = M})) (λ κs (self, _) r e. «Fault::refusal» self r)
 public_call «octets::Fault::place» = call octets_contracts.Fault.place.ended (fn₀ "octets::Fault::place") (code_of _ (λ M. octets.Fault.place.Met.met {M = M})) (λ κs (self, _) r e. «Fault::place» self r)
+public_call «octets::FaultFromRefusal::from» = call octets_contracts.FaultFromRefusal.from.ended (fn₀ "octets::FaultFromRefusal::from") (code_of _ (λ M. octets.FaultFromRefusal.from.Met.met {M = M})) (λ κs (value, _) r e. r ≡ Fault.Refusal value)
 public_call octets::cursor::Width::bytes_num = call octets_contracts.cursor.Width.bytes_num.ended (fn₀ "octets::cursor::Width::bytes_num") (code_of _ (λ M. octets.cursor.Width.bytes_num.Met.met {M = M})) (λ κs (self, _) r e. cursor::Width::bytes_num self r)
 public_call octets::cursor::stands_at = call octets_contracts.cursor.stands_at.ended (fn₀ "octets::cursor::stands_at") (code_of _ (λ M. octets.cursor.stands_at.Met.met {M = M})) (λ κs (s, (at, (m, _))) r e. cursor::stands_at s.now at m.now r)
 public_call «octets::cursor::before» = call octets_contracts.cursor.before.ended (fn₀ "octets::cursor::before") (code_of _ (λ M. octets.cursor.before.Met.met {M = M})) (λ κs (s, (c, _)) r e. «cursor::before» s.now c r)
@@ -210,11 +225,13 @@ public_call field::field::parse_field =
     lends field_contracts.field.parse_field.ended (fn₀ "field::field::parse_field") (code_of _ (λ M. field.field.parse_field.Met.met {M = M})) (λ κs (name, (dimensions, _)) r (_, (dimensions', _)). field::parse_field name.now dimensions.now r dimensions'.now)
     (λ κs (_, (dimensions, _)) r (_, (dimensions', _)). Refused (paper_field r) → dimensions' ≡ dimensions.now)
 public_call «field::field::width» = call field_contracts.field.width.ended (fn₀ "field::field::width") (code_of _ (λ M. field.field.width.Met.met {M = M})) (λ κs (d, (size, (pointer_size, _))) r e. «field::width» d size pointer_size r)
+public_call «field::field::FieldErrorFromRefusal::from» = call field_contracts.field.FieldErrorFromRefusal.from.ended (fn₀ "field::field::FieldErrorFromRefusal::from") (code_of _ (λ M. field.field.FieldErrorFromRefusal.from.Met.met {M = M})) (λ κs (value, _) r e. r ≡ FieldError.Refusal value)
 public_call «dna::dna::DnaTable::number» = call dna_contracts.dna.DnaTable.number.ended (fn₀ "dna::dna::DnaTable::number") (code_of _ (λ M. dna.dna.DnaTable.number.Met.met {M = M})) (λ κs (self, _) r e. «dna::DnaTable::number» self r)
 public_call dna::dna::dna_counts = call dna_contracts.dna.dna_counts.ended (fn₀ "dna::dna::dna_counts") (code_of _ (λ M. dna.dna.dna_counts.Met.met {M = M})) (λ κs (payload, (endianness, _)) r e. dna::dna_counts payload.now endianness r)
 public_call «dna::dna::dna» =
     lends dna_contracts.dna.dna.ended (fn₀ "dna::dna::dna") (code_of _ (λ M. dna.dna.dna.Met.met {M = M})) (λ κs (payload, (endianness, (names, (types, (structs, (fields, _)))))) r (_, (_, (names', (types', (structs', (fields', _)))))). «dna::dna» payload.now endianness names.now types.now structs.now fields.now r names'.now types'.now structs'.now fields'.now)
     (λ κs (_, (_, (names, (types, (structs, (fields, _)))))) r (_, (_, (names', (types', (structs', (fields', _)))))). Refused (paper_tables r) → (names' ≡ names.now) × (types' ≡ types.now) × (structs' ≡ structs.now) × (fields' ≡ fields.now))
+public_call «dna::dna::DnaErrorFromFault::from» = call dna_contracts.dna.DnaErrorFromFault.from.ended (fn₀ "dna::dna::DnaErrorFromFault::from") (code_of _ (λ M. dna.dna.DnaErrorFromFault.from.Met.met {M = M})) (λ κs (value, _) r e. r ≡ DnaError.Fault value)
 public_call header::FileFormat::header_len = call header_contracts.FileFormat.header_len.ended (fn₀ "header::FileFormat::header_len") (code_of _ (λ M. header.FileFormat.header_len.Met.met {M = M})) (λ κs (self, _) r e. FileFormat::header_len self r)
 public_call header::FileFormat::block_header_len = call header_contracts.FileFormat.block_header_len.ended (fn₀ "header::FileFormat::block_header_len") (code_of _ (λ M. header.FileFormat.block_header_len.Met.met {M = M})) (λ κs (self, (pointer_size, _)) r e. FileFormat::block_header_len self pointer_size r)
 public_call «header::Header::new» = call header_contracts.Header.new.ended (fn₀ "header::Header::new") (code_of _ (λ M. header.Header.new.Met.met {M = M})) (λ κs (pointer_size, (endianness, (version, (format, _)))) r e. «Header::new» pointer_size endianness version format r)
@@ -234,6 +251,7 @@ public_call blend::blend::boundary_at = call blend_contracts.blend.boundary_at.e
 public_call «blend::blend::blend» =
     lends blend_contracts.blend.blend.ended (fn₀ "blend::blend::blend") (code_of _ (λ M. blend.blend.blend.Met.met {M = M})) (λ κs (file, (table, _)) r (_, (table', _)). «blend::blend» file.now table.now r table'.now)
     (λ κs (_, (table, _)) r (_, (table', _)). Refused (paper_blend r) → table' ≡ table.now)
+public_call «blend::blend::BlendErrorFromFault::from» = call blend_contracts.blend.BlendErrorFromFault.from.ended (fn₀ "blend::blend::BlendErrorFromFault::from") (code_of _ (λ M. blend.blend.BlendErrorFromFault.from.Met.met {M = M})) (λ κs (value, _) r e. r ≡ BlendError.Fault value)
 public_call «walker::Place::start» = call walker_contracts.Place.start.ended (fn₀ "walker::Place::start") (code_of _ (λ M. walker.Place.start.Met.met {M = M})) (λ κs a r e. «Place::start» r)
 public_call «walker::Place::step» = call walker_contracts.Place.step.ended (fn₀ "walker::Place::step") (code_of _ (λ M. walker.Place.step.Met.met {M = M})) (λ κs (self, (file, _)) r e. «Place::step» self file.now r)
 public_call «runtime::runtime::view» = call runtime_contracts.runtime.view.ended (fn₀ "runtime::runtime::view") (code_of _ (λ M. runtime.runtime.view.Met.met {M = M})) (λ κs (file, (table, (row, _))) r e. «runtime::view» file.now table.now row r)
@@ -247,9 +265,11 @@ public_call «index::index::build» =
 public_call «index::index::find» = call index_contracts.index.find.ended (fn₀ "index::index::find") (code_of _ (λ M. index.index.find.Met.met {M = M})) (λ κs (table, (rows, (buckets, (heads, (links, (address, _)))))) r e. «index::find» table.now rows buckets heads.now links.now address r)
 public_call writable::writable::row_at = call writable_contracts.writable.row_at.ended (fn₀ "writable::writable::row_at") (code_of _ (λ M. writable.writable.row_at.Met.met {M = M})) (λ κs (table, (row, _)) r e. writable::row_at table.now row r)
 public_call writable::writable::bytes_needed = call writable_contracts.writable.bytes_needed.ended (fn₀ "writable::writable::bytes_needed") (code_of _ (λ M. writable.writable.bytes_needed.Met.met {M = M})) (λ κs (h, (table, (rows, (source, _)))) r e. writable::bytes_needed h table.now rows source.now r)
+public_call «writable::writable::WritableErrorFromFault::from» = call writable_contracts.writable.WritableErrorFromFault.from.ended (fn₀ "writable::writable::WritableErrorFromFault::from") (code_of _ (λ M. writable.writable.WritableErrorFromFault.from.Met.met {M = M})) (λ κs (value, _) r e. r ≡ WritableError.Fault value)
 public_call «writer::writer::write» =
     lends writer_contracts.writer.write.ended (fn₀ "writer::writer::write") (code_of _ (λ M. writer.writer.write.Met.met {M = M})) (λ κs (h, (table, (rows, (source, (out, _))))) r (_, (_, (_, (_, (out', _))))). «writer::write» h table.now rows source.now out.now r out'.now)
     (λ κs (_, (_, (_, (_, (out, _))))) r (_, (_, (_, (_, (out', _))))). Refused (paper_write r) → out' ≡ out.now)
+public_call «writer::writer::WriteErrorFromWritableError::from» = call writer_contracts.writer.WriteErrorFromWritableError.from.ended (fn₀ "writer::writer::WriteErrorFromWritableError::from") (code_of _ (λ M. writer.writer.WriteErrorFromWritableError.from.Met.met {M = M})) (λ κs (value, _) r e. r ≡ WriteError.Unwritable value)
 public_call held::step_at = call held_contracts.step_at.ended (fn₀ "held::step_at") (code_of _ (λ M. held.step_at.Met.met {M = M})) (λ κs (file, (place, _)) r e. step_at file.now place r)
 public_call «held::over» = call held_contracts.over.ended (fn₀ "held::over") (code_of _ (λ M. held.over.Met.met {M = M})) (λ κs (file, _) r e. «over» file r)
 public_call «held::next» = call held_contracts.next.ended (fn₀ "held::next") (code_of _ (λ M. held.next.Met.met {M = M})) (λ κs (w, _) r e. «next» w r)

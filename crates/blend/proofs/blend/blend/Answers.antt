@@ -7,7 +7,7 @@ use Rattle.blend.proofs.blend.blend.Goals as goal
 
 pub returns-in_err-h : goal.returns-in_err-h
 returns-in_err-h c =
-    let w = file-refused c.args.file.now _ c.in_err-h.ensures _ in
+    let w = file-refused c.args.file.now c.in_err-h.field-0.0 c.in_err-h.ensures _ in
     rw (handed_on _ _ c.from_residual.ensures.1) (w, refused-kept _ _ _ _ _ w)
 
 pub read_after-requires : goal.read_after-requires

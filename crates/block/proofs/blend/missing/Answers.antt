@@ -2,7 +2,7 @@
 use mathlib.Core.Path.{◌∙◌, ap}
 use Rattle.octets.specs.Cursor.{found}
 use Rattle.octets.proofs.Results.{handed_on}
-use Rattle.block.proofs.Layouts.{code-missing, first-number-missing, address-missing, address-null, rest-missing, rest_cut}
+use Rattle.block.proofs.Layouts.{code-missing, first-number-missing, address-missing, address-null, rest_stopped, rest_cut}
 use Rattle.block.proofs.blend.missing.Goals as goal
 
 pub returns-in_err-first : goal.returns-in_err-first
@@ -28,7 +28,7 @@ returns-then-n-eq0 c =
 pub returns-in_err-last : goal.returns-in_err-last
 returns-in_err-last c =
     let a = c.args in
-    ap found (handed_on _ _ c.from_residual-in_err-last.ensures.1) ∙ rest-missing a.h a.s.now a.c.at _ c.in_ok-first.ensures _ c.in_ok-address.ensures _ c.address_width.ensures _ _ c.in_ok-n.ensures c.if-n-eq0.false _ c.last_width.ensures _ c.in_err-last.ensures
+    ap found (handed_on _ _ c.from_residual-in_err-last.ensures.1) ∙ rest_stopped a.h a.s.now a.c.at _ c.in_ok-first.ensures _ c.in_ok-address.ensures _ c.address_width.ensures _ _ c.in_ok-n.ensures c.if-n-eq0.false _ c.last_width.ensures _ c.in_err-last.ensures
 
 pub returns : goal.returns
 returns c =

@@ -23,7 +23,7 @@ returns-then-file-self c =
 pub returns-in_default : goal.returns-in_default
 returns-in_default c =
     let a = c.args in
-    step_told_lem (step_by header_bytes a.file.now a.self) _ (step-refused header_bytes a.file.now a.self c.if-file-self.false _ (refused-told a.file.now _ (ap paper_header (sym c.unwrap_err.ensures) ∙ c.header-answer.ensures))) _ refl _ refl
+    step_told_lem (step_by header_bytes a.file.now a.self) _ (step-refused header_bytes a.file.now a.self c.if-file-self.false _ (refused-told a.file.now c.unwrap_err.result (ap paper_header (sym c.unwrap_err.ensures) ∙ c.header-answer.ensures))) _ refl _ refl
 
 pub returns-then-from : goal.returns-then-from
 returns-then-from c =
