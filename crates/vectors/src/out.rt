@@ -72,7 +72,7 @@ impl Output {
         Ok(())
     }
 
-    // Texts, one after another: what `write!` writes of them, which takes twice the time where there is little else.
+    // Texts, one after another: what `write!` writes of them, at less cost where they are short.
     pub fn texts(&mut self, texts: &[&str]) -> fmt::Result {
         for text in texts {
             self.put(text.as_bytes())?;
